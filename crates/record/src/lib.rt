@@ -1,0 +1,252 @@
+// The three sorts of number, the process record and its methods by value, events and outcomes: what 01 stores and hands about.
+// Rests on nothing below it.
+ghost use mathlib.Core.Path.{_≡_};
+ghost use Rattle.record.specs.Record.{lostAt, _▸_, _with_, to, pred≔, curr≔, succ≔, node≔, result≔, status≔, freshRecord, requested, wentDown, restarted, headNode, Idle};
+
+// A node of the table: head is 0, tail 1.
+pub struct Node(pub u32);
+
+// A process, numbered from 0.
+pub struct Process(pub u32);
+
+// A claimed address: any 32-bit number.
+pub struct Address(pub u32);
+
+// What a stop loses.
+pub struct Lost {
+    pub place: u8,
+    pub pred: Node,
+    pub curr: Node,
+    pub succ: Node,
+    pub pending: u8,
+    pub recovering: bool,
+}
+
+// What a stop keeps.
+pub struct Kept {
+    pub status: u8,
+    pub kind: u8,
+    pub address: Address,
+    pub node: Node,
+    pub result: u8,
+}
+
+pub struct Record {
+    pub lost: Lost,
+    pub kept: Kept,
+}
+
+// Kinds 0 to 5.
+pub enum Event {
+    Insert(Process, Address),
+    Delete(Process, Address),
+    Find(Process, Address),
+    Step(Process),
+    Stop(Process),
+    Restart(Process),
+}
+
+// What an event comes to: refused with its number, accepted, or accepted with an answer (false 1, true 2, fail 3).
+pub enum Outcome {
+    Refused(u8),
+    Accepted,
+    Answered(u8),
+}
+
+// A lost part of zeros but for its place.
+fn lost_at(place: u8) -> Lost
+    ensures { λ r. ⌜ r ≡ lostAt place ⌝ }
+{
+    Lost {
+        place,
+        pred: Node(0),
+        curr: Node(0),
+        succ: Node(0),
+        pending: 0,
+        recovering: false,
+    }
+}
+
+impl Record {
+    // A record of zeros.
+    pub fn fresh() -> Record
+        ensures { λ r. ⌜ r ≡ freshRecord ⌝ }
+    {
+        let lost = lost_at(0);
+        let kept = Kept {
+            status: 0,
+            kind: 0,
+            address: Address(0),
+            node: Node(0),
+            result: 0,
+        };
+        Record { lost, kept }
+    }
+
+    // A request: running, at its first place, with its kind, its address and its node.
+    pub fn request(place: u8, kind: u8, address: Address, own: Node) -> Record
+        ensures { λ r. ⌜ r ≡ requested place kind address own ⌝ }
+    {
+        let lost = lost_at(place);
+        let kept = Kept {
+            status: 1,
+            kind,
+            address,
+            node: own,
+            result: 0,
+        };
+        Record { lost, kept }
+    }
+
+    // Row 0: pred is head, curr the target; to 1.
+    pub fn from_head(mut self, target: Node) -> Record
+        ensures { λ r. ⌜ r ≡ (self ▸ pred≔ headNode ▸ curr≔ target ▸ to 1) ⌝ }
+    {
+        let head = Node(0);
+        let mut lost = self.lost;
+        lost.pred = head;
+        lost.curr = target;
+        lost.place = 1;
+        self.lost = lost;
+        self
+    }
+
+    // Rows 1 and 6: succ is the target; to a place.
+    pub fn found(mut self, target: Node, place: u8) -> Record
+        ensures { λ r. ⌜ r ≡ (self ▸ succ≔ target ▸ to place) ⌝ }
+    {
+        let mut lost = self.lost;
+        lost.succ = target;
+        lost.place = place;
+        self.lost = lost;
+        self
+    }
+
+    // Row 1, where the search ends: succ is the target; to a place with an answer.
+    pub fn found_with(mut self, target: Node, place: u8, answer: u8) -> Record
+        ensures { λ r. ⌜ r ≡ (self ▸ succ≔ target ▸ place with answer) ⌝ }
+    {
+        let mut lost = self.lost;
+        lost.succ = target;
+        lost.place = place;
+        lost.pending = answer;
+        self.lost = lost;
+        self
+    }
+
+    // Row 1, below the address: succ is the target, pred is curr, curr is succ; stay.
+    pub fn onward(mut self, target: Node) -> Record
+        ensures { λ r. ⌜ r ≡ (self ▸ succ≔ target ▸ pred≔ (self .lost .curr) ▸ curr≔ target ▸ to 1) ⌝ }
+    {
+        let curr = self.lost.curr;
+        let mut lost = self.lost;
+        lost.succ = target;
+        lost.pred = curr;
+        lost.curr = target;
+        lost.place = 1;
+        self.lost = lost;
+        self
+    }
+
+    // Row 2, done: curr is succ; to 1.
+    pub fn unlinked(mut self) -> Record
+        ensures { λ r. ⌜ r ≡ (self ▸ curr≔ (self .lost .succ) ▸ to 1) ⌝ }
+    {
+        let succ = self.lost.succ;
+        let mut lost = self.lost;
+        lost.curr = succ;
+        lost.place = 1;
+        self.lost = lost;
+        self
+    }
+
+    // Row 5: curr is written as the record's node; to 6.
+    pub fn takes_curr(mut self) -> Record
+        ensures { λ r. ⌜ r ≡ (self ▸ node≔ (self .lost .curr) ▸ to 6) ⌝ }
+    {
+        let curr = self.lost.curr;
+        let mut kept = self.kept;
+        kept.node = curr;
+        self.kept = kept;
+        self.lost.place = 6;
+        self
+    }
+
+    // Row 11: curr is the target; to a place.
+    pub fn walked(mut self, target: Node, place: u8) -> Record
+        ensures { λ r. ⌜ r ≡ (self ▸ curr≔ target ▸ to place) ⌝ }
+    {
+        let mut lost = self.lost;
+        lost.curr = target;
+        lost.place = place;
+        self.lost = lost;
+        self
+    }
+
+    // Row 11, above the address: curr is the target; to a place with an answer.
+    pub fn walked_with(mut self, target: Node, place: u8, answer: u8) -> Record
+        ensures { λ r. ⌜ r ≡ (self ▸ curr≔ target ▸ place with answer) ⌝ }
+    {
+        let mut lost = self.lost;
+        lost.curr = target;
+        lost.place = place;
+        lost.pending = answer;
+        self.lost = lost;
+        self
+    }
+
+    // To a place.
+    pub fn goes(mut self, place: u8) -> Record
+        ensures { λ r. ⌜ r ≡ (self ▸ to place) ⌝ }
+    {
+        self.lost.place = place;
+        self
+    }
+
+    // To a place with an answer.
+    pub fn goes_with(mut self, place: u8, answer: u8) -> Record
+        ensures { λ r. ⌜ r ≡ (self ▸ place with answer) ⌝ }
+    {
+        self.lost.place = place;
+        self.lost.pending = answer;
+        self
+    }
+
+    // Row 18: the pending answer is written as the kept result; to 19.
+    pub fn keeps_answer(mut self) -> Record
+        ensures { λ r. ⌜ r ≡ (self ▸ result≔ (self .lost .pending) ▸ to 19) ⌝ }
+    {
+        let answer = self.lost.pending;
+        self.kept.result = answer;
+        self.lost.place = 19;
+        self
+    }
+
+    // Row 19: status idle.
+    pub fn rests(mut self) -> Record
+        ensures { λ r. ⌜ r ≡ (self ▸ status≔ Idle) ⌝ }
+    {
+        self.kept.status = 0;
+        self
+    }
+
+    // A stop: the lost part becomes zeros, status down.
+    pub fn goes_down(mut self) -> Record
+        ensures { λ r. ⌜ r ≡ wentDown self ⌝ }
+    {
+        let lost = lost_at(0);
+        self.lost = lost;
+        self.kept.status = 2;
+        self
+    }
+
+    // A restart: running at place 13, recovering.
+    pub fn restarts(mut self) -> Record
+        ensures { λ r. ⌜ r ≡ restarted self ⌝ }
+    {
+        self.lost.place = 13;
+        self.lost.recovering = true;
+        self.kept.status = 1;
+        self
+    }
+}

@@ -1,0 +1,4 @@
+pub mod Numbers
+pub mod Encoding
+pub mod Reading
+pub mod Writing

@@ -1,0 +1,5 @@
+pub mod Words
+pub mod Places
+pub mod Steps
+pub mod Events
+pub mod Chain
