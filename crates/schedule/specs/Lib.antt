@@ -1,4 +1,5 @@
 pub mod Numbers
 pub mod Encoding
 pub mod Reading
+pub mod Cursors
 pub mod Writing
