@@ -1,0 +1,4 @@
+pub mod Tests
+pub mod Meets
+pub mod LawsEvents
+pub mod LawsAccess
