@@ -1,4 +1,5 @@
 pub mod Tests
+pub mod Conds
 pub mod Meets
 pub mod LawsEvents
 pub mod LawsAccess
