@@ -3,3 +3,5 @@ pub mod Places
 pub mod Steps
 pub mod Events
 pub mod Chain
+pub mod History
+pub mod Demand3

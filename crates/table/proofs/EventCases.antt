@@ -1,0 +1,97 @@
+-- What an event does, by cases; refused events change nothing. Rests on Events and KnownWrites.
+use Rattle.table.proofs.Common.{_≡_, refl, ap, _≢_, true, _&&_, ℕ, _≤_, _<_, arith, leb, length, set, set-getD, getD-set-same, getD-set-other}
+use Rattle.table.proofs.Common.{leb-true, process, noNode, Idle, Running, Down, Inserts, Deletes, Finds, freshRecord, requested, wentDown}
+use Rattle.table.proofs.Common.{restarted, processOf, Process, Address, Record, Event, Insert, Delete, Find, Step, Stop, Restart, Outcome}
+use Rattle.table.proofs.Common.{Refused, Accepted, Memory, written, nextNode, givenOut, Place, placeOf, row, turnIn, inRange, refused, stepOf}
+use Rattle.table.proofs.Common.{does, statusNeeded, sizesFit, tablesFit, act, State, stateOf, recordIn, Leaves, stored, event}
+use Rattle.table.proofs.Tests.{if, if-eq, if-lt, if-le, and-left, and-right}
+use Rattle.table.proofs.Numbered.{nextIn}
+use Rattle.table.proofs.KnownWrites.{goesAt, writesAt, saysAt}
+
+-- ---- records by process number
+
+abbrev pub recordAt : State → (p : ℕ) → Record
+recordAt σ p = recordIn σ (process p)
+
+-- the state with p's record and the memory replaced
+abbrev pub stateWith : State → (p : ℕ) → Memory → Record → State
+stateWith σ p m R = stateOf (σ .nodes) (σ .processes) m (set (σ .row) p R)
+
+pub record-same : (σ : State) (p : ℕ) (m : Memory) (R : Record) → p < length (σ .row) → recordAt (stateWith σ p m R) p ≡ R
+unfolding recordIn
+record-same σ p m R h = getD-set-same (σ .row) p R freshRecord h
+
+pub record-else : (σ : State) (p : ℕ) (m : Memory) (R : Record) (q : ℕ) → q ≢ p → recordAt (stateWith σ p m R) q ≡ recordAt σ q
+unfolding recordIn
+record-else σ p m R q h = getD-set-other (σ .row) p q R freshRecord h
+
+-- ---- the cases
+
+abbrev leaves : State → Outcome → Leaves
+leaves σ o = record { after = σ; outcome = o }
+
+-- p is there, and has the status that its event needs
+pub record Able (σ : State) (p status : ℕ) : Type 0 where
+  pub there : p < σ .processes
+  pub in-row : p < length (σ .row)
+  pub has : recordAt σ p .kept .status ≡ status
+
+pub data Happens (σ : State) : Event → Leaves → Type 0 where
+  refuses : {e : Event} (k : ℕ) → Happens σ e (leaves σ (Refused k))
+  inserts : {p : Process} {a : Address} → Able σ (p .0) Idle → nextIn (σ .memory) < σ .nodes
+      → Happens σ (Insert p a) (leaves (stateWith σ (p .0) (givenOut a (σ .memory)) (requested 0 Inserts a (nextNode (σ .memory)))) Accepted)
+  deletes : {p : Process} {a : Address} → Able σ (p .0) Idle
+      → Happens σ (Delete p a) (leaves (stateWith σ (p .0) (σ .memory) (requested 0 Deletes a noNode)) Accepted)
+  finds : {p : Process} {a : Address} → Able σ (p .0) Idle
+      → Happens σ (Find p a) (leaves (stateWith σ (p .0) (σ .memory) (requested 11 Finds a noNode)) Accepted)
+  steps : {p : Process} → Able σ (p .0) Running → inRange (recordIn σ p) ≡ true → (l : Place) → placeOf (recordIn σ p .lost .place) ≡ l
+      → Happens σ (Step p) (leaves
+      (stateWith σ (p .0) (written (writesAt l (σ .memory) (p .0) (recordIn σ p)) (σ .memory)) (goesAt l (σ .memory) (p .0) (recordIn σ p)))
+      (saysAt l (σ .memory) (p .0) (recordIn σ p)))
+  stops : {p : Process} → Able σ (p .0) Running → Happens σ (Stop p) (leaves (stateWith σ (p .0) (σ .memory) (wentDown (recordIn σ p))) Accepted)
+  restarts : {p : Process} → Able σ (p .0) Down → Happens σ (Restart p) (leaves (stateWith σ (p .0) (σ .memory) (restarted (recordIn σ p))) Accepted)
+
+module _ (σ : State) where
+  refused-stored : (p : Process) (k : ℕ) → stored σ p (refused (σ .memory) (recordIn σ p) k) ≡ leaves σ (Refused k)
+  unfolding stored recordIn
+  refused-stored p k = ap (λ row. leaves (stateOf (σ .nodes) (σ .processes) (σ .memory) row) (Refused k)) (set-getD (σ .row) (p .0) freshRecord)
+
+  refuses-stored : (e : Event) (p : Process) (k : ℕ) → Happens σ e (stored σ p (refused (σ .memory) (recordIn σ p) k))
+  refuses-stored e p k = rw (refused-stored p k) (refuses k)
+
+  -- an event of a process that is there, with tables that fit
+  module _ (fit : tablesFit (σ .nodes) (σ .processes) (σ .memory) ≡ true) where
+    counted : σ .memory .count ≤ σ .nodes
+    unfolding tablesFit
+    counted = leb-true (σ .memory .count) (σ .nodes) (and-right
+        (sizesFit (σ .nodes) (σ .processes) && leb (σ .nodes) (length (σ .memory .addresses)) && leb (σ .nodes) (length (σ .memory .links))
+        && leb (σ .nodes) (length (σ .memory .deleters)) && leb 2 (σ .memory .count)) (leb (σ .memory .count) (σ .nodes)) fit)
+
+    steps-or-8 : (p : Process) → Able σ (p .0) Running → Happens σ (Step p) (stored σ p (stepOf (σ .memory) p (recordIn σ p)))
+    unfolding stepOf stored turnIn
+    steps-or-8 p b = if (λ d. Happens σ (Step p) (stored σ p d)) (turnIn (σ .memory) p (recordIn σ p) .fits)
+        (λ f. steps b (and-left (inRange (recordIn σ p)) _ f) (placeOf (recordIn σ p .lost .place)) refl)
+        (λ f. refuses-stored (Step p) p 8)
+
+    does-happens : (e : Event) → Able σ (processOf e .0) (statusNeeded e)
+        → Happens σ e (stored σ (processOf e) (does (σ .nodes) (σ .memory) (recordIn σ (processOf e)) e))
+    unfolding does stored
+    does-happens (Insert p a) b = if-eq (λ d. Happens σ (Insert p a) (stored σ p d)) (σ .memory .count) (σ .nodes)
+        (λ q. refuses-stored (Insert p a) p 3) (λ q. inserts b (omega (arith, counted)))
+    does-happens (Delete p a) b = deletes b
+    does-happens (Find p a) b = finds b
+    does-happens (Step p) b = steps-or-8 p b
+    does-happens (Stop p) b = stops b
+    does-happens (Restart p) b = restarts b
+
+  pub happens : (e : Event) → Happens σ e (event σ e)
+  unfolding event act
+  happens e = if-le (Happens σ e) (σ .processes) (length (σ .row))
+      (λ r. if (λ d. Happens σ e (stored σ (processOf e) d)) (tablesFit (σ .nodes) (σ .processes) (σ .memory))
+      (λ f. if-lt (λ d. Happens σ e (stored σ (processOf e) d)) (processOf e .0) (σ .processes)
+      (λ h. if-eq (λ d. Happens σ e (stored σ (processOf e) d)) (recordIn σ (processOf e) .kept .status) (statusNeeded e)
+      (λ q. does-happens f e (record { there = h; in-row = omega arith; has = q }))
+      (λ q. refuses-stored e (processOf e) 2))
+      (λ h. refuses-stored e (processOf e) 1))
+      (λ f. refuses-stored e (processOf e) 7))
+      (λ r. refuses 7)

@@ -1,0 +1,83 @@
+-- In a run from a quiet state sizes and table lengths never change, and no event is refused with 7. Rests on LawsSizes and RunInvariant.
+use Rattle.table.proofs.Common.{_≡_, refl, sym, _∙_, ap, _≢_, _⊎_, inl, inr, true, ℕ, zero, suc, _≤_, arith, ltb, eqb, length, le-leb}
+use Rattle.table.proofs.Common.{processOf, Record, Event, Insert, Delete, Find, Step, Stop, Restart, Refused, Accepted, Answered, Memory}
+use Rattle.table.proofs.Common.{Place, p19, placeOf, row, turnIn, Acted, does, statusNeeded, tablesFit, act, State, recordIn, stored, event}
+use Rattle.table.proofs.Common.{at, out}
+use Rattle.table.proofs.Tests.{if}
+use Rattle.table.proofs.Meets.{step-meets, insert-meets}
+use Rattle.table.proofs.LawsSizes.{SizesStay, sizes-stay}
+use Rattle.table.proofs.KnownWrites.{goesAt, saysAt}
+use Rattle.table.proofs.GoingOn.{GoesOn, goes-on, goes-19}
+use Rattle.table.proofs.Fitting.{sizes-of, fit-of}
+use Rattle.table.proofs.Run.{Run, stateAt, memoryAt, outcomeAt}
+use Rattle.table.proofs.OpenOperations.{orderly}
+
+-- ---- outcomes
+
+refused-same : (j k : ℕ) → Refused j ≡ Refused k → j ≡ k
+refused-same j k q = cc
+
+accepted-not-refused : (k : ℕ) → Accepted ≡ Refused k → ⊥
+accepted-not-refused k q = let z : _≡_ {A = ℕ} 0 1 = cc in omega arith
+
+answered-not-refused : (v k : ℕ) → Answered v ≡ Refused k → ⊥
+answered-not-refused v k q = let z : _≡_ {A = ℕ} 0 1 = cc in omega arith
+
+-- a row refuses nothing by itself
+row-not-refused : (l : Place) (m : Memory) (p : ℕ) (R : Record) (k : ℕ) → saysAt l m p R ≡ Refused k → ⊥
+row-not-refused l m p R k q = go (goes-on l m p R)
+  where
+    go : (l ≡ p19) ⊎ GoesOn l R (goesAt l m p R) (saysAt l m p R) → ⊥
+    go (inl z) = answered-not-refused (R .lost .pending) k (sym (goes-19 m p R .1) ∙ ap (λ x. saysAt x m p R) (sym z) ∙ q)
+    go (inr g) = accepted-not-refused k (sym (g .says) ∙ q)
+
+abbrev Not7 : Acted → Type 0
+Not7 d = d .outcome ≡ Refused 7 → ⊥
+
+-- an event of a process that is there and has the status it needs
+does-not-7 : (nodes : ℕ) (m : Memory) (R : Record) (e : Event) → Not7 (does nodes m R e)
+unfolding does
+does-not-7 nodes m R (Insert p a) = insert-meets Not7 m R nodes p a (λ q. absurd (omega (arith, refused-same 3 7 q))) (accepted-not-refused 7)
+does-not-7 nodes m R (Delete p a) = accepted-not-refused 7
+does-not-7 nodes m R (Find p a) = accepted-not-refused 7
+does-not-7 nodes m R (Step p) = step-meets Not7 m R p (λ fits. unfold turnIn in row-not-refused (placeOf (R .lost .place)) m (p .0) R 7)
+    (λ q. absurd (omega (arith, refused-same 8 7 q)))
+does-not-7 nodes m R (Stop p) = accepted-not-refused 7
+does-not-7 nodes m R (Restart p) = accepted-not-refused 7
+
+-- an event with tables that fit
+event-not-7 : (σ : State) (e : Event) → σ .processes ≤ length (σ .row) → tablesFit (σ .nodes) (σ .processes) (σ .memory) ≡ true
+    → event σ e .outcome ≢ Refused 7
+unfolding event act stored
+event-not-7 σ e row fit = rw (le-leb (σ .processes) (length (σ .row)) row, fit)
+    (if Not7 (ltb (processOf e .0) (σ .processes))
+    (λ there. if Not7 (eqb (recordIn σ (processOf e) .kept .status) (statusNeeded e))
+    (λ status. does-not-7 (σ .nodes) (σ .memory) (recordIn σ (processOf e)) e)
+    (λ other q. absurd (omega (arith, refused-same 2 7 q))))
+    (λ beyond q. absurd (omega (arith, refused-same 1 7 q))))
+
+-- ---- a run
+
+module _ (ρ : Run) where
+  pub run-sizes-stay : (t : ℕ) → SizesStay (ρ .start) (stateAt ρ t)
+  unfolding at
+  run-sizes-stay zero = record { nodes = refl; processes = refl; addresses = refl; links = refl; deleters = refl; row = refl }
+  run-sizes-stay (suc t) = let x = run-sizes-stay t in let y = sizes-stay (stateAt ρ t) (ρ .events t) in
+      record {
+        nodes = y .nodes ∙ x .nodes;
+        processes = y .processes ∙ x .processes;
+        addresses = y .addresses ∙ x .addresses;
+        links = y .links ∙ x .links;
+        deleters = y .deleters ∙ x .deleters;
+        row = y .row ∙ x .row;
+      }
+
+  pub tables-fit : (t : ℕ) → tablesFit (stateAt ρ t .nodes) (stateAt ρ t .processes) (memoryAt ρ t) ≡ true
+  tables-fit t = rw (run-sizes-stay t .nodes, run-sizes-stay t .processes)
+      (fit-of (ρ .start .nodes) (ρ .start .processes) (memoryAt ρ t)
+      (sizes-of (ρ .start .nodes) (ρ .start .processes) (ρ .start .memory) (ρ .quiet .tables)) (orderly ρ t .room))
+
+  pub never-refused-7 : (t : ℕ) → outcomeAt ρ t ≢ Refused 7
+  unfolding out
+  never-refused-7 t = event-not-7 (stateAt ρ t) (ρ .events t)
+      (omega (arith, ρ .quiet .row, run-sizes-stay t .processes, run-sizes-stay t .row)) (tables-fit t)
