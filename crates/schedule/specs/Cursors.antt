@@ -10,17 +10,36 @@ use Rattle.record.specs.declared.Event.{Event}
 use Rattle.record.specs.declared.Event.the-variants.{Step}
 use Rattle.schedule.specs.declared.Header.{Header}
 use Rattle.schedule.specs.declared.Cursor.{Cursor}
+use Rattle.schedule.specs.declared.NumberRead.{NumberRead}
+use Rattle.schedule.specs.declared.NumberRead.the-variants as number
 use Rattle.schedule.specs.declared.HeaderRead.{HeaderRead}
 use Rattle.schedule.specs.declared.HeaderRead.the-variants as header
 use Rattle.schedule.specs.declared.EventRead.{EventRead}
 use Rattle.schedule.specs.declared.EventRead.the-variants as event
-use Rattle.schedule.specs.Numbers.{Read, got, stops}
+use Rattle.schedule.specs.Numbers.{Read, got, stops, readNumber}
 use Rattle.schedule.specs.Encoding.{Item, single, burst}
 use Rattle.schedule.specs.Reading.{readHeader, NextItem, end, item, refuses, nextItem}
 
+-- at a place, outside a burst
+abbrev pub cursorAt : ℕ → Cursor
+cursorAt at = record { at = at; process = process 0; left = 0 }
+
+-- before the header
+abbrev pub start : Cursor
+start = cursorAt 0
+
+-- the place before the bytes left of a file
+abbrev pub placeIn : List ℕ → List ℕ → ℕ
+placeIn file left = length file - length left
+
+-- the number at a place, with the place after it
+unfoldable pub numberAt : List ℕ → ℕ → NumberRead
+numberAt file at =
+    elim (readNumber (drop at file)) [ got n left ↦ number.Got n (placeIn file left) | stops n ↦ number.Refused n ]
+
 -- the cursor before the bytes left of a file, in a burst of which so many steps are left
 abbrev pub cursorIn : List ℕ → List ℕ → Process → ℕ → Cursor
-cursorIn file left p more = record { at = length file - length left; process = p; left = more }
+cursorIn file left p more = record { at = placeIn file left; process = p; left = more }
 
 -- "For a file: 7 for length, header numbers, 7 for sizes"
 unfoldable pub headerAt : List ℕ → Cursor → HeaderRead

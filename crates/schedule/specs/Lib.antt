@@ -3,3 +3,4 @@ pub mod Encoding
 pub mod Reading
 pub mod Cursors
 pub mod Writing
+pub mod Inside

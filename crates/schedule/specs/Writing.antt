@@ -7,6 +7,8 @@ use lib.ListN.{length, take, drop}
 use Rattle.record.specs.declared.Event.{Event}
 use Rattle.table.specs.Events.{sizesFit}
 use Rattle.schedule.specs.declared.Header.{Header}
+use Rattle.schedule.specs.declared.Written.{Written}
+use Rattle.schedule.specs.declared.Written.the-variants.{Next, Refused}
 use Rattle.schedule.specs.Encoding.{headerBytes, eventBytes}
 
 -- what the writer leaves: the output, the place for what comes next, and the refusal's number, 0 for none
@@ -17,6 +19,11 @@ pub record Wrote : Type 0 where
 
 abbrev pub wrote : List ℕ → ℕ → ℕ → Wrote
 wrote output at refusal = record { output = output; at = at; refusal = refusal }
+
+-- the writer's answer, in numbers: the next place with no refusal, or the refusal's number at the place as it was
+abbrev pub answered : List ℕ → ℕ → Written → Wrote
+answered output at (Next next) = wrote output next 0
+answered output at (Refused n) = wrote output at n
 
 -- "A start past the output leaves none; bytes past 65,536 count as absent."
 abbrev pub room : List ℕ → ℕ → ℕ

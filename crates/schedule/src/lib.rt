@@ -1,6 +1,18 @@
 // Schedule files of 01. The definitions of the bytes are in specs/.
+mod numbers;
+mod reading;
+mod writing;
+
+pub use numbers::read_number;
+pub use reading::read_event;
+pub use reading::read_header;
 use record::Event;
 use record::Process;
+pub use writing::write_event;
+pub use writing::write_header;
+ghost use mathlib.Core.Path.{_≡_};
+ghost use Rattle.table.specs.Events.{sizesFit};
+ghost use Rattle.schedule.specs.Cursors.{start};
 
 // The sizes that a schedule asks for.
 pub struct Header {
@@ -15,6 +27,12 @@ pub struct Cursor {
     pub left: u32,
 }
 
+// A number with the place after it, or the refusal's number.
+pub enum NumberRead {
+    Got(u32, usize),
+    Refused(u8),
+}
+
 // A header with the cursor after it, or the refusal's number.
 pub enum HeaderRead {
     Got(Header, Cursor),
@@ -26,4 +44,41 @@ pub enum EventRead {
     Got(Event, Cursor),
     End,
     Refused(u8),
+}
+
+// The place after what was written, or the refusal's number.
+pub enum Written {
+    Next(usize),
+    Refused(u8),
+}
+
+impl Cursor {
+    // Before the header.
+    pub fn start() -> Cursor
+        ensures { λ r. ⌜ r ≡ start ⌝ }
+    {
+        Cursor {
+            at: 0,
+            process: Process(0),
+            left: 0,
+        }
+    }
+}
+
+// Whether a header's sizes are within the limits.
+pub(crate) fn sizes_fit(header: Header) -> bool
+    ensures { λ r. ⌜ r ≡ sizesFit (header .nodes) (header .processes) ⌝ }
+{
+    let nodes = header.nodes;
+    let processes = header.processes;
+    if nodes < 2 {
+        return false;
+    }
+    if 4096 < nodes {
+        return false;
+    }
+    if processes < 1 {
+        return false;
+    }
+    processes <= 64
 }

@@ -1,0 +1,91 @@
+-- The loop keeps what was gathered with what is left to read; its laws are in Gathers.
+use Prim.Native.Nat.{_-_}
+use mathlib.Core.Path.{_≡_, refl, sym, _∙_}
+use native.Mathlib.Omega.{arith}
+use borrow.Author.Needs.{needs}
+use lib.ListN.{take, drop}
+use Rattle.schedule.specs.Numbers.{readNumber}
+use Rattle.schedule.proofs.Gathers.{after, behind, number-is, still-groups, Gathered, none-gathered, one-gathered}
+use Rattle.schedule.proofs.Gathers.{missing, gathered, ended, five-and-no-last}
+use Rattle.schedule.proofs.numbers.read_number.Statement.{statement}
+use Rattle.schedule.proofs.numbers.read_number.Tie as tie
+
+abbrev Inv-loop : tie.InvT-loop
+Inv-loop bytes at groups₀ count₀ next₀ groups count next =
+    Gathered count groups (behind (take count groups) (after count (drop next bytes)) ≡ readNumber (drop at bytes))
+
+abbrev μ-loop : tie.MeasureT-loop
+μ-loop bytes at groups₀ count₀ next₀ groups count next = 5 - count
+
+loop-holds : tie.Need-loop-holds Inv-loop μ-loop
+unfolding after
+loop-holds c = none-gathered refl
+
+returns : tie.Need-returns Inv-loop μ-loop
+returns c =
+    let l = c .before .before .loop in
+    let a = c .before .before .before .before .args in
+    number-is (a .bytes .now) (a .at) _ (sym (missing (a .bytes .now) (l .groups) (l .count) (l .next) (omega arith) (omega arith)) ∙ l .inv .whole)
+
+shared-slice-read-byte : tie.Need-shared-slice-read-byte Inv-loop μ-loop
+shared-slice-read-byte c = search needs
+
+add-next : tie.Need-add-next Inv-loop μ-loop
+add-next c = search needs
+
+array-write-groups : tie.Need-array-write-groups Inv-loop μ-loop
+array-write-groups c = search needs
+
+judge-requires : tie.Need-judge-requires Inv-loop μ-loop
+judge-requires c κs =
+    let l = c .before .before .before .before .loop in
+    (still-groups (l .groups) (l .count) _ (omega arith) (l .inv .seven-bits), omega arith)
+
+returns-2 : tie.Need-returns-2 Inv-loop μ-loop
+returns-2 c =
+    let l = c .before .before .before .before .before .loop in
+    let a = c .before .before .before .before .before .before .before .args in
+    c .judge .ensures
+    ∙ (ended (a .bytes .now) (l .groups) (l .count) (l .next) (omega arith) (l .inv .five) (omega arith) (omega arith) (l .inv .zeros)
+    ∙ number-is (a .bytes .now) (a .at) _ (l .inv .whole))
+
+array-write-groups-2 : tie.Need-array-write-groups-2 Inv-loop μ-loop
+array-write-groups-2 c = search needs
+
+add-count : tie.Need-add-count Inv-loop μ-loop
+add-count c = search needs
+
+loop-less : tie.Need-loop-less Inv-loop μ-loop
+loop-less c = search needs
+
+loop-again : tie.Need-loop-again Inv-loop μ-loop
+loop-again c =
+    let l = c .before .before .before .before .loop in
+    let a = c .before .before .before .before .before .before .args in
+    one-gathered (l .count) (l .groups) _ (omega arith) (omega (arith, c .before .shared-slice-known2 .given (l .next))) (l .inv)
+    (sym (gathered (a .bytes .now) (l .groups) (l .count) (l .next) (omega arith) (l .inv .five) (omega arith) (omega arith)) ∙ l .inv .whole)
+
+returns-3 : tie.Need-returns-3 Inv-loop μ-loop
+returns-3 c =
+    let l = c .before .loop in
+    let a = c .before .before .before .args in
+    number-is (a .bytes .now) (a .at) _ (sym (five-and-no-last (a .bytes .now) (l .groups) (l .count) (l .next) (omega arith)) ∙ l .inv .whole)
+
+pub read-number-spec : {M : Type 1} → statement M
+read-number-spec =
+    tie.close
+    (tie.spec
+    Inv-loop
+    μ-loop
+    loop-holds
+    returns
+    shared-slice-read-byte
+    add-next
+    array-write-groups
+    judge-requires
+    returns-2
+    array-write-groups-2
+    add-count
+    loop-less
+    loop-again
+    returns-3)

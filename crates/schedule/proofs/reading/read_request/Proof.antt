@@ -1,0 +1,42 @@
+-- The law of each way out is in WaysOut.
+use mathlib.Core.Path.{sym, _∙_}
+use borrow.Author.Needs.{needs}
+use Rattle.schedule.proofs.WaysOut.{request-addressed, request-refused}
+use Rattle.schedule.proofs.reading.read_request.Statement.{statement}
+use Rattle.schedule.proofs.reading.read_request.Tie as tie
+
+read-number-requires : tie.Need-read-number-requires
+read-number-requires c κs = search needs
+
+enum-known-read : tie.Need-enum-known-read
+enum-known-read c = search needs
+
+request-requires : tie.Need-request-requires
+request-requires c κs = search needs
+
+cursor-at-requires : tie.Need-cursor-at-requires
+cursor-at-requires c κs = search needs
+
+enum-known-read-2 : tie.Need-enum-known-read-2
+enum-known-read-2 c = search needs
+
+returns : tie.Need-returns
+returns c =
+    let read = c .before .before .before in
+    rw (c .before .request .ensures, c .cursor-at .ensures)
+    (request-addressed _ _ _ _ _ _ (sym (read .before .before .read-number .ensures) ∙ read .read .given .1))
+
+returns-2 : tie.Need-returns-2
+returns-2 c = request-refused _ _ _ _ _ (sym (c .before .before .before .read-number .ensures) ∙ c .before .read2 .given .1)
+
+pub read-request-spec : {M : Type 1} → statement M
+read-request-spec =
+    tie.close
+    (tie.spec
+    read-number-requires
+    enum-known-read
+    request-requires
+    cursor-at-requires
+    enum-known-read-2
+    returns
+    returns-2)

@@ -1,0 +1,23 @@
+-- What the number reader makes of the groups that it gathered. Rests on nothing.
+use mathlib.Core.Bool.{cond, _&&_}
+use mathlib.Core.List.{List, [], _∷_}
+use Prim.Native.Nat.{ℕ, _+_, _*_, _<_}
+use lib.Dec.{ltb, eqb}
+use lib.ListN.{getD}
+use Rattle.schedule.specs.declared.NumberRead.{NumberRead}
+use Rattle.schedule.specs.declared.NumberRead.the-variants.{Got, Refused}
+
+-- "groups of seven bits"
+abbrev pub Groups : List ℕ → Type 0
+Groups groups = (k : ℕ) → getD groups k 0 < 128
+
+-- the number that groups make, lowest first
+abbrev pub summed : List ℕ → ℕ
+summed [] = 0
+summed (group ∷ more) = group + 128 * summed more
+
+-- groups with the last at a place, and zeros behind it
+unfoldable pub judged : List ℕ → (last next : ℕ) → NumberRead
+judged groups last next =
+    cond (ltb 0 last && eqb (getD groups last 0) 0) (Refused 6)
+    (cond (ltb 15 (getD groups 4 0)) (Refused 6) (Got (summed groups) next))

@@ -1,0 +1,66 @@
+// The number reader: a number's groups are gathered into a scratch array of five, then judged and summed.
+use crate::NumberRead;
+ghost use mathlib.Core.Path.{_≡_};
+ghost use Prim.Native.Nat.{_+_, _*_, _<_};
+ghost use lib.ListN.{getD};
+ghost use Rattle.schedule.specs.Cursors.{numberAt};
+ghost use Rattle.schedule.specs.Inside.Gathering.{Groups, summed, judged};
+
+// A group before the rest of its number.
+fn lowest(group: u8, rest: u32) -> u32
+    requires { ⌜ (group < 128) × (rest < 33554432) ⌝ }
+    ensures { λ r. ⌜ r ≡ group + 128 * rest ⌝ }
+{
+    group as u32 + 128 * rest
+}
+
+// The groups' number.
+fn sum(groups: [u8; 5]) -> u32
+    requires { ⌜ Groups groups ⌝ }
+    requires { ⌜ getD groups 4 0 < 16 ⌝ }
+    ensures { λ r. ⌜ r ≡ summed groups ⌝ }
+{
+    let rest = lowest(groups[3], groups[4] as u32);
+    let rest = lowest(groups[2], rest);
+    let rest = lowest(groups[1], rest);
+    lowest(groups[0], rest)
+}
+
+// The groups gathered: a last group of zero after another, or a fifth above 15, is refused.
+fn judge(groups: [u8; 5], last: usize, next: usize) -> NumberRead
+    requires { ⌜ Groups groups ⌝ }
+    requires { ⌜ last < 5 ⌝ }
+    ensures { λ r. ⌜ r ≡ judged groups last next ⌝ }
+{
+    if 0 < last && groups[last] == 0 {
+        return NumberRead::Refused(6);
+    }
+    if 15 < groups[4] {
+        return NumberRead::Refused(6);
+    }
+    let number = sum(groups);
+    NumberRead::Got(number, next)
+}
+
+// The number that stands at a place.
+pub fn read_number(bytes: &[u8], at: usize) -> NumberRead
+    ensures { λ r. ⌜ r ≡ numberAt (now (bytes .entry)) at ⌝ }
+{
+    let mut groups = [0u8; 5];
+    let mut count: usize = 0;
+    let mut next = at;
+    while count < 5 {
+        if bytes.len() <= next {
+            return NumberRead::Refused(4);
+        }
+        let byte = bytes[next];
+        next += 1;
+        if byte < 128 {
+            groups[count] = byte;
+            return judge(groups, count, next);
+        }
+        groups[count] = byte - 128;
+        count += 1;
+    }
+    NumberRead::Refused(6)
+}
