@@ -1,4 +1,18 @@
 // The list over lent tables: one event on one record by value. Rests on the place table.
+ghost use mathlib.Core.Path.{_≡_};
+ghost use Rattle.list.specs.Acting.{left, actOn};
+
+mod access;
+mod delete;
+mod event;
+mod find;
+mod insert;
+mod recovery;
+mod search;
+mod step;
+mod words;
+
+use record::Event;
 use record::Outcome;
 use record::Record;
 
@@ -14,4 +28,32 @@ pub struct Acted {
     pub advanced: Record,
     pub sizes: Sizes,
     pub outcome: Outcome,
+}
+
+// One event of kinds 0 to 5 on the lent tables and one record: refusals 7, 1, 2, 3, 8 in this order.
+pub fn act(
+    addresses: &mut [u32],
+    links: &mut [u32],
+    deleters: &mut [u32],
+    sizes: Sizes,
+    record: Record,
+    event: Event,
+) -> Acted
+    ensures { λ r. ⌜ left (now (addresses .exit)) (now (links .exit)) (now (deleters .exit)) r ≡
+        actOn (now (addresses .entry)) (now (links .entry)) (now (deleters .entry)) sizes «record» event ⌝ }
+{
+    let fits = event::tables_fit(addresses.len(), links.len(), deleters.len(), sizes);
+    let there = words::is_there(event::process_of(event), sizes);
+    let ready = record.kept.status == event::status_needed(event);
+    event::judge(
+        addresses,
+        links,
+        deleters,
+        sizes,
+        record,
+        event,
+        fits,
+        there,
+        ready,
+    )
 }

@@ -1,0 +1,7 @@
+pub mod Tested
+pub mod Orders
+pub mod Turns
+pub mod Ends
+pub mod Places
+pub mod Judged
+pub mod Unique

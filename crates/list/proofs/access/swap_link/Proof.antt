@@ -1,0 +1,31 @@
+-- A swap where the row is accepted, and none where it is not.
+use Rattle.table.proofs.Conds.{conds}
+use Rattle.list.proofs.Tested.{where-accepted}
+use Rattle.list.specs.Parts.{swapWhere}
+use borrow.Author.Needs.{needs}
+use Rattle.list.proofs.access.swap_link.Statement.{statement}
+use Rattle.list.proofs.access.swap_link.Tie as tie
+
+link-word-requires : tie.Need-link-word-requires
+link-word-requires c κs = c .before .before .pre .from-small (search needs)
+
+link-word-requires-2 : tie.Need-link-word-requires-2
+link-word-requires-2 c κs = c .before .before .before .pre .to-small (search needs)
+
+swap-requires : tie.Need-swap-requires
+swap-requires c κs = c .before .before .before .before .before .pre .inside (search needs)
+
+same-length : tie.Need-same-length
+same-length c = search needs
+
+returns : tie.Need-returns
+returns c = search (needs, where-accepted)
+
+returns-2 : tie.Need-returns-2
+unfolding swapWhere
+returns-2 c = search (needs, conds)
+
+pub swap-link-spec : {M : Type 1} → statement M
+swap-link-spec =
+    tie.close
+    (tie.spec link-word-requires link-word-requires-2 swap-requires same-length returns returns-2)

@@ -1,0 +1,51 @@
+-- Place 12 reads a link.
+use mathlib.Core.Path.{refl}
+use Rattle.list.proofs.Turns.{read-link}
+use Rattle.list.specs.Parts.{readOf}
+use Rattle.table.specs.Places.{row, placeOf, curr}
+use borrow.Author.Needs.{needs}
+use Rattle.list.proofs.find.row_12.Statement.{statement}
+use Rattle.list.proofs.find.row_12.Tie as tie
+
+in-use-requires : tie.Need-in-use-requires
+in-use-requires c κs = search needs
+
+read-link-requires : tie.Need-read-link-requires
+read-link-requires c κs = search needs
+
+goes-with-requires : tie.Need-goes-with-requires
+goes-with-requires c κs = search needs
+
+goes-with-requires-2 : tie.Need-goes-with-requires-2
+goes-with-requires-2 c κs = search needs
+
+either-requires : tie.Need-either-requires
+either-requires c κs = search needs
+
+turn-requires : tie.Need-turn-requires
+turn-requires c κs = search needs
+
+returns : tie.Need-returns
+unfolding row placeOf readOf
+returns c addresses deleters p =
+    rw (
+      c .turn .ensures,
+      c .before .either .ensures,
+      c .before .before .goes-with2 .ensures,
+      c .before .before .before .goes-with .ensures,
+      c .before .before .before .before .read-link .ensures,
+      c .before .before .before .before .before .in-use .ensures,
+    )
+    (read-link addresses _ deleters _ p _ 12 (c .before .before .before .before .before .before .before .before .pre) curr _ refl)
+
+pub row-12-spec : {M : Type 1} → statement M
+row-12-spec =
+    tie.close
+    (tie.spec
+    in-use-requires
+    read-link-requires
+    goes-with-requires
+    goes-with-requires-2
+    either-requires
+    turn-requires
+    returns)

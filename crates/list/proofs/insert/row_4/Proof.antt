@@ -1,0 +1,73 @@
+-- Place 4 swaps a link.
+use mathlib.Core.Path.{refl}
+use Rattle.list.proofs.Turns.{swapped-link}
+use Rattle.list.proofs.Tested.{three-reach, plain, some}
+use Rattle.table.specs.Places.{row, placeOf, pred}
+use borrow.Author.Needs.{needs}
+use Rattle.list.proofs.insert.row_4.Statement.{statement}
+use Rattle.list.proofs.insert.row_4.Tie as tie
+
+in-use-requires : tie.Need-in-use-requires
+in-use-requires c κs = search needs
+
+in-use-requires-2 : tie.Need-in-use-requires-2
+in-use-requires-2 c κs = search needs
+
+some-in-use-requires : tie.Need-some-in-use-requires
+some-in-use-requires c κs = search needs
+
+all-requires : tie.Need-all-requires
+all-requires c κs = search needs
+
+swap-link-requires : tie.Need-swap-link-requires
+swap-link-requires c κs =
+    three-reach _ _ (c .before .before .before .before .before .before .before .before .before .pre .1) _ _ _ _ _ _ _
+    (c .before .all .ensures)
+    (plain _ _ _ (c .before .before .before .before .in-use .ensures))
+    (plain _ _ _ (c .before .before .before .in-use2 .ensures))
+    (some _ _ _ (c .before .before .some-in-use .ensures))
+
+goes-with-requires : tie.Need-goes-with-requires
+goes-with-requires c κs = search needs
+
+goes-requires : tie.Need-goes-requires
+goes-requires c κs = search needs
+
+either-requires : tie.Need-either-requires
+either-requires c κs = search needs
+
+turn-requires : tie.Need-turn-requires
+turn-requires c κs = search needs
+
+same-length : tie.Need-same-length
+same-length c = search needs
+
+returns : tie.Need-returns
+unfolding row placeOf
+returns c addresses deleters p =
+    rw (c .turn .ensures, c .before .either .ensures, c .before .before .goes .ensures, c .before .before .before .goes-with .ensures)
+    (swapped-link addresses _ deleters _ p _ 4
+    (c .before .before .before .before .before .before .before .before .before .before .before .before .before .before .before .before .pre .0) pred _ _ _ _ _ _ _ refl
+    (rw (
+      c .before .before .before .before .before .before .before .before .all .ensures,
+      c .before .before .before .before .before .before .before .before .before .some-in-use .ensures,
+      c .before .before .before .before .before .before .before .before .before .before .in-use2 .ensures,
+      c .before .before .before .before .before .before .before .before .before .before .before .in-use .ensures,
+    ))
+    (c .before .before .before .before .before .before .swap-link .ensures))
+
+pub row-4-spec : {M : Type 1} → statement M
+row-4-spec =
+    tie.close
+    (tie.spec
+    in-use-requires
+    in-use-requires-2
+    some-in-use-requires
+    all-requires
+    swap-link-requires
+    goes-with-requires
+    goes-requires
+    either-requires
+    turn-requires
+    same-length
+    returns)

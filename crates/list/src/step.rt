@@ -1,0 +1,125 @@
+// One step: the record's ranges, then one match on the place, which chooses among the twenty rows. Rests on the rows.
+ghost use mathlib.Core.Path.{_≡_};
+ghost use mathlib.Core.Bool.{true};
+ghost use Prim.Native.Nat.{_<_};
+ghost use Rattle.table.specs.Steps.{inRange};
+ghost use Rattle.list.specs.Acting.{left};
+ghost use Rattle.list.specs.Parts.{Room, stepped};
+use crate::Acted;
+use crate::Sizes;
+use crate::access;
+use crate::delete;
+use crate::find;
+use crate::insert;
+use crate::recovery;
+use crate::search;
+use record::Process;
+use record::Record;
+
+// Whether the fields of a record are in their ranges.
+fn in_range(old: Record) -> bool
+    ensures { λ r. ⌜ r ≡ inRange old ⌝ }
+{
+    let place = old.lost.place;
+    let pending = old.lost.pending;
+    let kind = old.kept.kind;
+    (place <= 19)
+        & (kind <= 2)
+        & (pending <= 3)
+        & (old.kept.result <= 2)
+        & !((place == 18) & ((pending == 0) | (pending == 3)))
+        & !((place == 19) & (pending == 0))
+        & !((place <= 2) & (kind == 2))
+}
+
+// The row of a record whose fields are in their ranges.
+fn row(
+    addresses: &[u32],
+    links: &mut [u32],
+    deleters: &mut [u32],
+    sizes: Sizes,
+    p: Process,
+    old: Record,
+) -> Acted
+    requires { ⌜ inRange old ≡ true ⌝ }
+    requires { ⌜ Room (now links) sizes ⌝ }
+    requires { ⌜ Room (now deleters) sizes ⌝ }
+    requires { ⌜ p .0 < 64 ⌝ }
+    ensures { λ a. ⌜ left (now (addresses .entry)) (now (links .exit)) (now (deleters .exit)) a ≡
+        stepped (now (addresses .entry)) (now (links .entry)) (now (deleters .entry)) sizes p old ⌝ }
+{
+    let place = old.lost.place;
+    match place {
+        0..=2 => match place {
+            0 => search::row_0(links, sizes, old),
+            1 => search::row_1(addresses, links, sizes, old),
+            _ => search::row_2(links, sizes, old),
+        },
+        3..=4 => match place {
+            3 => insert::row_3(links, sizes, old),
+            _ => insert::row_4(links, sizes, old),
+        },
+        5..=10 => match place {
+            5 => delete::row_5(sizes, old),
+            6 => delete::row_6(links, sizes, old),
+            7 => delete::row_7(links, sizes, old),
+            8 => delete::row_8(links, sizes, old),
+            9 => delete::row_9(deleters, sizes, p, old),
+            _ => delete::row_10(deleters, sizes, p, old),
+        },
+        11..=12 => match place {
+            11 => find::row_11(addresses, links, sizes, old),
+            _ => find::row_12(links, sizes, old),
+        },
+        13..=17 => match place {
+            13 => recovery::row_13(sizes, old),
+            14 => recovery::row_14(links, sizes, old),
+            15 => recovery::row_15(links, sizes, old),
+            16 => recovery::row_16(deleters, sizes, p, old),
+            _ => recovery::row_17(deleters, sizes, p, old),
+        },
+        18 => recovery::row_18(sizes, old),
+        19 => recovery::row_19(sizes, old),
+        _ => access::refused(sizes, old, 8),
+    }
+}
+
+// One step of a running process: its row, or refusal 8 for a record out of its ranges.
+fn step_if(
+    addresses: &[u32],
+    links: &mut [u32],
+    deleters: &mut [u32],
+    sizes: Sizes,
+    p: Process,
+    old: Record,
+    ranged: bool,
+) -> Acted
+    requires { ⌜ ranged ≡ inRange old ⌝ }
+    requires { ⌜ Room (now links) sizes ⌝ }
+    requires { ⌜ Room (now deleters) sizes ⌝ }
+    requires { ⌜ p .0 < 64 ⌝ }
+    ensures { λ a. ⌜ left (now (addresses .entry)) (now (links .exit)) (now (deleters .exit)) a ≡
+        stepped (now (addresses .entry)) (now (links .entry)) (now (deleters .entry)) sizes p old ⌝ }
+{
+    if ranged {
+        return row(addresses, links, deleters, sizes, p, old);
+    }
+    access::refused(sizes, old, 8)
+}
+
+pub(crate) fn step(
+    addresses: &[u32],
+    links: &mut [u32],
+    deleters: &mut [u32],
+    sizes: Sizes,
+    p: Process,
+    old: Record,
+) -> Acted
+    requires { ⌜ Room (now links) sizes ⌝ }
+    requires { ⌜ Room (now deleters) sizes ⌝ }
+    requires { ⌜ p .0 < 64 ⌝ }
+    ensures { λ a. ⌜ left (now (addresses .entry)) (now (links .exit)) (now (deleters .exit)) a ≡
+        stepped (now (addresses .entry)) (now (links .entry)) (now (deleters .entry)) sizes p old ⌝ }
+{
+    step_if(addresses, links, deleters, sizes, p, old, in_range(old))
+}
