@@ -1,0 +1,7 @@
+pub mod Over
+pub mod Tests
+pub mod Freshness
+pub mod Events
+pub mod Tables
+pub mod Acts
+pub mod Unique

@@ -1,0 +1,73 @@
+-- Lent tables and a lent row of records made fresh, or refused. Rests on the place table's fresh state.
+use mathlib.Core.Bool.{Bool, cond, _&&_}
+use mathlib.Core.List.{List, _++_}
+use mathlib.Core.Option.{Option, none, some}
+use Prim.Native.Nat.{ℕ}
+use lib.Dec.{leb}
+use lib.ListN.{length, drop}
+use Rattle.record.specs.declared.Record.{Record}
+use Rattle.table.specs.Words.{memory}
+use Rattle.table.specs.Events.{State, fresh, tablesFit}
+use Rattle.list.specs.declared.Sizes.{Sizes}
+use Rattle.lent.specs.declared.Made.{Made}
+use Rattle.lent.specs.declared.Made.the-variants.{Refused, Fresh}
+
+-- the refusal's number, 0 where all was made fresh
+abbrev pub refusalOf : Made → ℕ
+refusalOf (Refused number) = number
+refusalOf (Fresh sizes) = 0
+
+-- the sizes of what was made fresh, none where it was refused
+abbrev pub sizesMade : Made → Option Sizes
+sizesMade (Refused number) = none
+sizesMade (Fresh sizes) = some sizes
+
+-- new words or records laid over the lent ones, from the first on. "The caller's table words beyond the stated sizes are never touched."
+abbrev pub over : {A : Type 0} → List A → List A → List A
+over new lent = new ++ drop (length new) lent
+
+-- the stated sizes of a state, and its count
+abbrev pub sizesOf : State → Sizes
+sizesOf σ = record { nodes = σ .nodes; processes = σ .processes; count = σ .memory .count }
+
+-- ---- the tables alone
+
+-- the lent tables afterwards, and the answer
+pub record TablesLeft : Type 0 where
+  pub addresses : List ℕ
+  pub links : List ℕ
+  pub deleters : List ℕ
+  pub answer : Made
+
+abbrev pub tablesLeft : List ℕ → List ℕ → List ℕ → Made → TablesLeft
+tablesLeft addresses links deleters answer = record { addresses = addresses; links = links; deleters = deleters; answer = answer }
+
+-- a fresh list fits the lent tables: sizes inside the limits, no lent table too short
+abbrev pub freshFits : List ℕ → List ℕ → List ℕ → (nodes processes : ℕ) → Bool
+freshFits addresses links deleters nodes processes =
+    tablesFit nodes processes (memory addresses links deleters (fresh nodes processes .memory .count))
+
+-- "An accepted header makes the tables fresh; a refused one changes nothing."
+unfoldable pub freshTables : List ℕ → List ℕ → List ℕ → (nodes processes : ℕ) → TablesLeft
+freshTables addresses links deleters nodes processes =
+    let σ = fresh nodes processes in
+    cond (freshFits addresses links deleters nodes processes)
+    (tablesLeft (over (σ .memory .addresses) addresses) (over (σ .memory .links) links) (over (σ .memory .deleters) deleters) (Fresh (sizesOf σ)))
+    (tablesLeft addresses links deleters (Refused 7))
+
+-- ---- the tables and the row
+
+pub record ListLeft : Type 0 where
+  pub tables : TablesLeft
+  pub row : List Record
+
+abbrev pub listLeft : List ℕ → List ℕ → List ℕ → List Record → Made → ListLeft
+listLeft addresses links deleters row answer = record { tables = tablesLeft addresses links deleters answer; row = row }
+
+-- the same of the row too; a row shorter than the process count is a lent table too short
+unfoldable pub freshList : List ℕ → List ℕ → List ℕ → List Record → (nodes processes : ℕ) → ListLeft
+freshList addresses links deleters row nodes processes =
+    let σ = fresh nodes processes in
+    cond (leb processes (length row) && freshFits addresses links deleters nodes processes)
+    (record { tables = freshTables addresses links deleters nodes processes; row = over (σ .row) row })
+    (listLeft addresses links deleters row (Refused 7))

@@ -1,0 +1,28 @@
+-- What an event on a lent record, or in a lent row of records, leaves: the list's and the place table's own definitions, spelt with what is lent.
+use mathlib.Core.List.{List}
+use Prim.Native.Nat.{ℕ}
+use Rattle.record.specs.declared.Record.{Record}
+use Rattle.record.specs.declared.Event.{Event}
+use Rattle.table.specs.Words.{memory}
+use Rattle.table.specs.Events.{State, stateOf, Leaves, event}
+use Rattle.list.specs.declared.Sizes.{Sizes}
+use Rattle.list.specs.declared.Acted.{Acted}
+use Rattle.lent.specs.declared.Said.{Said}
+
+-- "one record is lent to the step and left advanced": the lent record afterwards and what is said are what the list's event by value answers
+abbrev pub actedOf : Record → Said → Acted
+actedOf advanced said = record { advanced = advanced; sizes = said .sizes; outcome = said .outcome }
+
+-- "The process table is lent as a row of records.": the state that is lent
+abbrev pub stateIn : List ℕ → List ℕ → List ℕ → Sizes → List Record → State
+stateIn addresses links deleters sizes row =
+    stateOf (sizes .nodes) (sizes .processes) (memory addresses links deleters (sizes .count)) row
+
+-- the lent tables and the lent row afterwards, and what is said
+abbrev pub leaves : List ℕ → List ℕ → List ℕ → List Record → Said → Leaves
+leaves addresses links deleters row said =
+    record { after = stateIn addresses links deleters (said .sizes) row; outcome = said .outcome }
+
+-- "other records are untouched": the place table's event
+abbrev pub actIn : List ℕ → List ℕ → List ℕ → Sizes → List Record → Event → Leaves
+actIn addresses links deleters sizes row e = event (stateIn addresses links deleters sizes row) e

@@ -1,0 +1,1 @@
+// The proof kit of walks over lent records: laws and names that the proofs of functions on `&mut Record` and `&mut [Record]` cite. No code.
