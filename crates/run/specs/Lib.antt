@@ -1,2 +1,4 @@
-pub mod Text
+pub mod Filling
+pub mod Pieces
+pub mod Parts
 pub mod Output

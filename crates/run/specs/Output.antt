@@ -1,17 +1,17 @@
 -- 01, "The run program": the bytes that it writes for any input. Rests on the schedule's reading, the place table's events and Text.
-use mathlib.Core.Bool.{Bool, true, false, cond}
+use mathlib.Core.Bool.{cond}
 use mathlib.Core.List.{List, [], _∷_, _++_}
-use Prim.Native.Nat.{ℕ, zero, suc, _+_}
+use Prim.Native.Nat.{ℕ, _+_}
 use lib.Dec.{eqb}
 use lib.ListN.{length}
 use Rattle.record.specs.declared.Event.{Event}
 use Rattle.record.specs.declared.Outcome.{Outcome}
-use Rattle.record.specs.declared.Outcome.the-variants.{Refused, Accepted, Answered}
-use Rattle.table.specs.Events.{State, event, fresh, runs, outcomes}
+use Rattle.record.specs.declared.Outcome.the-variants.{Refused}
+use Rattle.table.specs.Events.{State, fresh, runs, outcomes}
 use Rattle.table.specs.Chain.{chainAddresses}
 use Rattle.schedule.specs.Encoding.{eventsOf}
-use Rattle.schedule.specs.Reading.{Reading, File, badHeader, file, readFile}
-use Rattle.run.specs.Text.{line, keysLine}
+use Rattle.schedule.specs.Reading.{badHeader, file, readFile}
+use Rattle.text.specs.Text.{line, keysLine}
 
 -- "Otherwise one line per event", numbered on from a number
 unfoldable pub lines : ℕ → List Outcome → List ℕ

@@ -1,1 +1,177 @@
-// 01's run program: the definition of its output is in specs/. No code yet.
+// 01's run program: from the bytes of a schedule file to lines of text, block after block. Rests on the reader, the list and the text.
+mod keys;
+mod lines;
+
+ghost use mathlib.Core.Path.{_≡_};
+ghost use mathlib.Core.List.{List};
+ghost use Prim.Native.Nat.{ℕ, _≤_, _-_};
+ghost use lib.ListN.{length};
+ghost use Rattle.run.specs.declared.Phase.the-variants.{Refusing};
+ghost use Rattle.run.specs.Filling.{Stop, stop, fillFrom};
+ghost use Rattle.run.specs.Pieces.{World, world, phase≔, nextPiece, fills, refusing, startOf, begins};
+ghost use Rattle.run.specs.Parts.{Reaches, Ready};
+use keys::fill_keys;
+use lent::Made;
+use lent::fresh_tables;
+use lines::fill_lines;
+use list::Sizes;
+use record::Node;
+use record::Outcome;
+use record::Record;
+use schedule::Cursor;
+use schedule::HeaderRead;
+use schedule::read_header;
+use text::put_line;
+
+// What a run does next: it says why its header was refused, acts on events, walks on along the chain from a node, for at most so many steps,
+// or is over.
+pub enum Phase {
+    Refusing(u8),
+    Acting,
+    Walking(Node, u64),
+    Over,
+}
+
+// A run that stands somewhere: its phase, its reading, the stated sizes, the number of its next line, and its records.
+pub struct Run {
+    pub phase: Phase,
+    pub cursor: Cursor,
+    pub sizes: Sizes,
+    pub number: u32,
+    pub row: [Record; 64],
+}
+
+// How many bytes of the block are filled, and the run to go on with.
+pub struct Filled {
+    pub count: usize,
+    pub run: Run,
+}
+
+impl Run {
+    // The same but for its phase.
+    pub fn in_phase(self, phase: Phase) -> Run
+        ensures { λ r. ⌜ r ≡ phase≔ phase self ⌝ }
+    {
+        let cursor = self.cursor;
+        let sizes = self.sizes;
+        let row = self.row;
+        Run {
+            phase,
+            cursor,
+            sizes,
+            number: self.number,
+            row,
+        }
+    }
+}
+
+// A run that has only to say why its header was refused.
+fn refusing(number: u8) -> Run
+    ensures { λ r. ⌜ r ≡ refusing number ⌝ }
+{
+    let cursor = Cursor::start();
+    let fresh = Record::fresh();
+    let row = [fresh; 64];
+    Run {
+        phase: Phase::Refusing(number),
+        cursor,
+        sizes: Sizes {
+            nodes: 0,
+            processes: 0,
+            count: 0,
+        },
+        number: 0,
+        row,
+    }
+}
+
+// A run after its header, with fresh tables or without.
+fn start_of(next: Cursor, made: Made) -> Run
+    ensures { λ r. ⌜ r ≡ startOf next made ⌝ }
+{
+    match made {
+        Made::Refused(number) => refusing(number),
+        Made::Fresh(sizes) => {
+            let fresh = Record::fresh();
+            let row = [fresh; 64];
+            Run {
+                phase: Phase::Acting,
+                cursor: next,
+                sizes,
+                number: 0,
+                row,
+            }
+        }
+    }
+}
+
+// A run at the start of a file: its header read, and the lent tables made fresh where it is accepted.
+pub fn begin(file: &[u8], addresses: &mut [u32], links: &mut [u32], deleters: &mut [u32]) -> Run
+    ensures { λ r. ⌜ world (now (addresses .exit)) (now (links .exit)) (now (deleters .exit)) r ≡ begins (now (file .entry)) (now (addresses .entry)) (now (links .entry)) (now (deleters .entry)) ⌝ }
+{
+    let cursor = Cursor::start();
+    let read = read_header(file, cursor);
+    match read {
+        HeaderRead::Got(header, next) => {
+            let made = fresh_tables(addresses, links, deleters, header.nodes, header.processes);
+            start_of(next, made)
+        }
+        HeaderRead::Refused(number) => refusing(number),
+    }
+}
+
+// The line of a refused header.
+fn fill_refusal(block: &mut [u8], run: Run, number: u8) -> Filled
+    requires { ⌜ run .phase ≡ Refusing number ⌝ }
+    ensures { λ r. ⌜ ((file addresses links deleters : List ℕ) → Reaches (Stop World) (λ turns. fillFrom (nextPiece file) turns (world addresses links deleters (r .run)) (now (block .exit)) (r .count)) (fills file (world addresses links deleters run) (now (block .entry))) (length (now (block .exit)) - r .count)) ⌝ }
+    ensures { λ r. ⌜ r .count ≤ length (now (block .exit)) ⌝ }
+    ensures { λ r. ⌜ Ready (r .run .phase) (length (now (block .exit)) - r .count) ⌝ }
+{
+    if block.len() < 64 {
+        return Filled { count: 0, run };
+    }
+    let count = put_line(block, 0, Outcome::Refused(number));
+    let over = run.in_phase(Phase::Over);
+    Filled { count, run: over }
+}
+
+// What comes before the addresses of the last line.
+fn fill_first(
+    file: &[u8],
+    addresses: &mut [u32],
+    links: &mut [u32],
+    deleters: &mut [u32],
+    block: &mut [u8],
+    run: Run,
+) -> Filled
+    ensures { λ r. ⌜ Reaches (Stop World) (λ turns. fillFrom (nextPiece (now (file .entry))) turns (world (now (addresses .exit)) (now (links .exit)) (now (deleters .exit)) (r .run)) (now (block .exit)) (r .count)) (fills (now (file .entry)) (world (now (addresses .entry)) (now (links .entry)) (now (deleters .entry)) run) (now (block .entry))) (length (now (block .exit)) - r .count) ⌝ }
+    ensures { λ r. ⌜ r .count ≤ length (now (block .exit)) ⌝ }
+    ensures { λ r. ⌜ Ready (r .run .phase) (length (now (block .exit)) - r .count) ⌝ }
+{
+    let phase = run.phase;
+    match phase {
+        Phase::Refusing(number) => fill_refusal(block, run, number),
+        Phase::Acting => fill_lines(file, addresses, links, deleters, block, run),
+        Phase::Walking(_, _) => Filled { count: 0, run },
+        Phase::Over => Filled { count: 0, run },
+    }
+}
+
+// Fills a block with whole lines, and with whole addresses of the last line, from where the run stands. A block of fewer than 64 bytes is too
+// short: nothing is put into it, and the run stays.
+pub fn fill(
+    file: &[u8],
+    addresses: &mut [u32],
+    links: &mut [u32],
+    deleters: &mut [u32],
+    block: &mut [u8],
+    run: Run,
+) -> Filled
+    ensures { λ r. ⌜ stop (world (now (addresses .exit)) (now (links .exit)) (now (deleters .exit)) (r .run)) (now (block .exit)) (r .count) ≡ fills (now (file .entry)) (world (now (addresses .entry)) (now (links .entry)) (now (deleters .entry)) run) (now (block .entry)) ⌝ }
+    ensures { λ r. ⌜ r .count ≤ length (now (block .exit)) ⌝ }
+{
+    let first = fill_first(file, addresses, links, deleters, block, run);
+    let count = first.count;
+    let on = first.run;
+    fill_keys(addresses, links, block, count, on)
+}

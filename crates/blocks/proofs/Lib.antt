@@ -1,0 +1,7 @@
+pub mod Pieces
+pub mod Comes
+pub mod Blocks
+pub mod Longer
+pub mod Begins
+pub mod Theorem
+pub mod EndToEnd

@@ -1,0 +1,24 @@
+use Rattle.chain.proofs.Walks.{onward-told}
+use borrow.Author.Needs.{needs}
+use Rattle.chain.proofs.onward.Statement.{statement}
+use Rattle.chain.proofs.onward.Tie as tie
+
+word-at-requires : tie.Need-word-at-requires
+word-at-requires c κs = search needs
+
+rank-of-requires : tie.Need-rank-of-requires
+rank-of-requires c κs = search needs
+
+rank-of-requires-2 : tie.Need-rank-of-requires-2
+rank-of-requires-2 c κs = search needs
+
+judge-requires : tie.Need-judge-requires
+judge-requires c κs = search needs
+
+returns : tie.Need-returns
+returns c = search (needs, onward-told)
+
+pub onward-spec : {M : Type 1} → statement M
+onward-spec =
+    tie.close
+    (tie.spec word-at-requires rank-of-requires rank-of-requires-2 judge-requires returns)

@@ -1,0 +1,32 @@
+// Prints a run: the blocks of its output, one after the other, to standard output. Rests on the run.
+ghost use mathlib.Core.Path.{_≡_};
+ghost use lib.ListN.{length};
+ghost use Rattle.run.specs.Pieces.{begins};
+ghost use Rattle.printer.specs.Printing.{Printed};
+use run::begin;
+use run::fill;
+
+// Runs a schedule file and writes its output. Answers whether all of it was written; it stops at the first block that can't be.
+pub fn print_output(
+    file: &[u8],
+    addresses: &mut [u32],
+    links: &mut [u32],
+    deleters: &mut [u32],
+    block: &mut [u8],
+) -> bool
+    ensures { λ r. ⌜ Printed (now (file .entry)) (begins (now (file .entry)) (now (addresses .entry)) (now (links .entry)) (now (deleters .entry))) (length (now (block .entry))) (now (addresses .exit)) (now (links .exit)) (now (deleters .exit)) r ⌝ }
+{
+    let mut run = begin(file, addresses, links, deleters);
+    loop {
+        let filled = fill(file, addresses, links, deleters, block, run);
+        let count = filled.count;
+        if count == 0 {
+            return true;
+        }
+        let on = filled.run;
+        run = on;
+        if !io::write_all(1, &block[..count]) {
+            return false;
+        }
+    }
+}

@@ -1,0 +1,4 @@
+pub mod Fills
+pub mod Rooms
+pub mod Steps
+pub mod Unique

@@ -1,0 +1,258 @@
+-- What comes next in a run, by what its reader, its list and its walk gave. Rests on Pieces.
+use Prim.Native.Nat.{ℕ, zero, suc, _-_, _<_, _≤_}
+use mathlib.Core.List.{List, [], _∷_}
+use mathlib.Core.Bool.{Bool, true, false, cond, _&&_}
+use mathlib.Core.Path.{_≡_, refl, ap, sym, _∙_}
+use mathlib.Core.Logic.{_⊎_, ⊎-elim}
+use native.Mathlib.Omega.{arith}
+use borrow.Author.Tests.{lt-leb, leb-true, leb-false, ltb-true, ne-eqb}
+use lib.Dec.{leb, ltb, eqb}
+use lib.ListN.{length, length-append, getD, set}
+use lib.Seq.{set-getD}
+use denote.Enum.Declared.{tagOf}
+use Rattle.record.specs.Record.{freshRecord, process, address}
+use Rattle.record.specs.Event.{processOf}
+use Rattle.record.specs.declared.Node.{Node}
+use Rattle.record.specs.declared.Address.{Address}
+use Rattle.record.specs.declared.Event.{Event}
+use Rattle.record.specs.declared.Outcome.the-variants as outcome
+use Rattle.table.specs.Words.{Memory, memory, linkAt, addressAt, targetOf}
+use Rattle.table.specs.Events.{State, Acted, act, refused, sizesFit, tablesFit, event, stored, recordIn, Leaves}
+use Rattle.table.specs.Chain.{goesOn}
+use Rattle.list.specs.Acting.{Left, actOn}
+use Rattle.schedule.specs.declared.Cursor.{Cursor}
+use Rattle.schedule.specs.declared.EventRead.{EventRead}
+use Rattle.schedule.specs.declared.EventRead.the-variants as read
+use Rattle.schedule.specs.declared.Header.{Header}
+use Rattle.schedule.specs.declared.HeaderRead.the-variants as header
+use Rattle.schedule.specs.Cursors.{start, headerAt, eventAt}
+use Rattle.lent.specs.Fresh.{TablesLeft, freshTables}
+use Rattle.schedule.proofs.EventRead as event-read
+use Rattle.chain.specs.Walking.{walkedFrom}
+use Rattle.chain.specs.declared.Walked.{Walked}
+use Rattle.chain.specs.declared.Walked.the-variants.{Onto, Ends}
+use Rattle.text.specs.Text.{line, decimal, space, newline}
+use Rattle.run.specs.declared.Phase.{Phase}
+use Rattle.run.specs.declared.Phase.the-variants.{Refusing, Acting, Walking, Over}
+use Rattle.run.specs.declared.Run.{Run}
+use Rattle.run.proofs.Phase as phase-type
+use Rattle.run.specs.Filling.{Next, piece, nothing, stop, fillFrom}
+use Rattle.run.specs.Pieces.{World, world, runOf, memoryOf, tableOf, inPhase, nextNumber, wentOn, toWalk, eventNext, addressNext, nextPiece, refusing, startOf, begins}
+use Rattle.run.specs.Parts.{Ready, slotOf, stoppedText, lastText}
+use Rattle.run.proofs.Fills.{full, at-end}
+
+-- ---- an event by the place of its process's record in a row of 64
+
+and-false : (a : Bool) → (a && false) ≡ false
+and-false true = refl
+and-false false = refl
+
+too-many : (nodes processes : ℕ) (m : Memory) → 64 < processes → tablesFit nodes processes m ≡ false
+unfolding tablesFit sizesFit
+too-many nodes processes m h =
+    rw (lt-leb processes 64 h, and-false (leb 2 nodes && leb nodes 4096 && leb 1 processes))
+
+module _ (σ : State) (e : Event) where
+  -- what an event leaves, acted on the record at a place
+  abbrev acts : ℕ → Acted
+  acts p = act (σ .nodes) (σ .processes) (σ .memory) (recordIn σ (process p)) e
+
+  abbrev at : ℕ → Leaves
+  at p = stored σ (process p) (acts p)
+
+  -- a refusal leaves everything, at whatever place
+  refused-stays : (p number : ℕ) → stored σ (process p) (refused (σ .memory) (recordIn σ (process p)) number) ≡ record { after = σ; outcome = outcome.Refused number }
+  unfolding stored recordIn
+  refused-stays p number = rw (set-getD (σ .row) p freshRecord)
+
+  pub acts-refused : (fit there : Bool) (p : ℕ) → tablesFit (σ .nodes) (σ .processes) (σ .memory) ≡ fit → ltb (processOf e .0) (σ .processes) ≡ there
+      → (fit && there) ≡ false → at p ≡ record { after = σ; outcome = outcome.Refused (cond fit 1 7) }
+  unfolding act
+  acts-refused true true p f t h = absurd (let z : _≡_ {A = ℕ} 0 1 = cc in omega arith)
+  acts-refused true false p f t h = rw (f, t) (refused-stays p 1)
+  acts-refused false there p f t h = rw f (refused-stays p 7)
+
+  -- a process that is not there is refused at any place
+  anywhere : (p q : ℕ) → 64 ≤ processOf e .0 → at p ≡ at q
+  anywhere p q h = go (tablesFit (σ .nodes) (σ .processes) (σ .memory)) refl (ltb (processOf e .0) (σ .processes)) refl
+    where
+      no-room : (fit there : Bool) → tablesFit (σ .nodes) (σ .processes) (σ .memory) ≡ fit → ltb (processOf e .0) (σ .processes) ≡ there → (fit && there) ≡ false
+      no-room true true f t =
+          sym f ∙ too-many (σ .nodes) (σ .processes) (σ .memory) (omega (arith, ltb-true (processOf e .0) (σ .processes) t))
+      no-room true false f t = refl
+      no-room false there f t = refl
+
+      go : (fit : Bool) → tablesFit (σ .nodes) (σ .processes) (σ .memory) ≡ fit → (there : Bool) → ltb (processOf e .0) (σ .processes) ≡ there → at p ≡ at q
+      go fit f there t = acts-refused fit there p f t (no-room fit there f t) ∙ sym (acts-refused fit there q f t (no-room fit there f t))
+
+  module _ (row : length (σ .row) ≡ 64) where
+    pub event-on-row : event σ e ≡ at (processOf e .0)
+    unfolding event
+    event-on-row = go (leb (σ .processes) 64) refl
+      where
+        go : (b : Bool) → leb (σ .processes) 64 ≡ b → cond (leb (σ .processes) (length (σ .row))) (at (processOf e .0))
+            (record { after = σ; outcome = outcome.Refused 7 }) ≡ at (processOf e .0)
+        go true h = rw (row, h)
+        go false h =
+            let f = too-many (σ .nodes) (σ .processes) (σ .memory) (leb-false (σ .processes) 64 h) in
+            rw (row, h) (sym (acts-refused false (ltb (processOf e .0) (σ .processes)) (processOf e .0) f refl refl))
+
+    pub event-by-slot : (p : ℕ) → p ≡ slotOf (processOf e .0) → event σ e ≡ at p
+    unfolding slotOf
+    event-by-slot p is = event-on-row ∙ (go (leb 64 (processOf e .0)) refl ∙ ap at (sym is))
+      where
+        go : (b : Bool) → leb 64 (processOf e .0) ≡ b → at (processOf e .0) ≡ at (cond b 0 (processOf e .0))
+        go true h = anywhere (processOf e .0) 0 (leb-true 64 (processOf e .0) h)
+        go false h = refl
+
+-- ---- the pieces
+
+pub acting-piece : (file : List ℕ) (w : World) → w .run .phase ≡ Acting → nextPiece file w ≡ eventNext file w
+unfolding nextPiece
+acting-piece file w e = rw e
+
+pub got-piece : (file : List ℕ) (w : World) (e : Event) (next : Cursor) → eventAt file (w .run .cursor) ≡ read.Got e next
+    → eventNext file w ≡ piece (line (w .run .number) (event (tableOf w) e .outcome)) (wentOn w next (event (tableOf w) e .after))
+unfolding eventNext
+got-piece file w e next h = rw (h, eventNext)
+
+-- the world after an event, as the code leaves it, and its line
+module _ (w : World) (acting : w .run .phase ≡ Acting) (row : length (w .run .row) ≡ 64) (e : Event) (next : Cursor) (p number : ℕ) (x : Left)
+    (slot : p ≡ slotOf (processOf e .0)) (following : number ≡ nextNumber (w .run .number))
+    (is : x ≡ actOn (w .addresses) (w .links) (w .deleters) (w .run .sizes) (getD (w .run .row) p freshRecord) e) where
+  abbrev after : World
+  after =
+      world (x .addresses) (x .links) (x .deleters)
+      (runOf (w .run .phase) next (x .answer .sizes) number (set (w .run .row) p (x .answer .advanced)))
+
+  leaves-is : event (tableOf w) e ≡ at (tableOf w) e p
+  leaves-is = event-by-slot (tableOf w) e row p slot
+
+  goes-on : piece (line (w .run .number) (at (tableOf w) e p .outcome)) (wentOn w next (at (tableOf w) e p .after)) ≡ piece (line (w .run .number)
+      (x .answer .outcome)) after
+  unfolding actOn stored recordIn
+  goes-on = rw (following, is)
+
+  pub acted-piece : (file : List ℕ) → eventAt file (w .run .cursor) ≡ read.Got e next → nextPiece file w ≡ piece (line (w .run .number) (x .answer .outcome)) after
+  acted-piece file h =
+      acting-piece file w acting
+      ∙ (got-piece file w e next h
+      ∙ (ap (λ (y : Leaves). piece (line (w .run .number) (y .outcome)) (wentOn w next (y .after))) leaves-is ∙ goes-on))
+
+-- what follows the last event
+pub last-next : (file : List ℕ) (w : World) (r : EventRead) → eventAt file (w .run .cursor) ≡ r
+    → (tagOf event-read.the-type r ≡ 1) ⊎ (tagOf event-read.the-type r ≡ 2) → eventNext file w ≡ piece (lastText (w .run .number) r) (toWalk w)
+unfolding eventNext lastText stoppedText
+last-next file w (read.Got e next) is h = absurd (⊎-elim (λ (p : 0 ≡ 1). omega arith) (λ (p : 0 ≡ 2). omega arith) h)
+last-next file w read.End is h = rw (is, eventNext)
+last-next file w (read.Refused n) is h = rw (is, eventNext)
+
+pub last-piece : (file : List ℕ) (w : World) (r : EventRead) → w .run .phase ≡ Acting → r ≡ eventAt file (w .run .cursor)
+    → (tagOf event-read.the-type r ≡ 1) ⊎ (tagOf event-read.the-type r ≡ 2) → nextPiece file w ≡ piece (lastText (w .run .number) r) (toWalk w)
+last-piece file w r acting is h = acting-piece file w acting ∙ last-next file w r (sym is) h
+
+pub last-some : (number : ℕ) (r : EventRead) → (tagOf event-read.the-type r ≡ 1) ⊎ (tagOf event-read.the-type r ≡ 2) → 1 ≤ length (lastText number r)
+unfolding lastText stoppedText
+last-some number (read.Got e next) h = absurd (⊎-elim (λ (p : 0 ≡ 1). omega arith) (λ (p : 0 ≡ 2). omega arith) h)
+last-some number read.End h = omega arith
+last-some number (read.Refused n) h = simp length-append (omega arith)
+
+-- the refusal of a header
+pub refusal-piece : (file : List ℕ) (w : World) (n : ℕ) → w .run .phase ≡ Refusing n → nextPiece file w ≡ piece (line 0 (outcome.Refused n)) (inPhase Over w)
+unfolding nextPiece
+refusal-piece file w n e = rw e
+
+pub over-nothing : (file : List ℕ) (w : World) → w .run .phase ≡ Over → nextPiece file w ≡ nothing
+unfolding nextPiece
+over-nothing file w e = rw e
+
+-- the walk
+pub walking-piece : (file : List ℕ) (w : World) (n : Node) (steps : ℕ) → w .run .phase ≡ Walking n steps → nextPiece file w ≡ addressNext w n steps
+unfolding nextPiece
+walking-piece file w n steps e = rw e
+
+module _ (w : World) (n : Node) (steps : ℕ) where
+  abbrev onto : Node
+  onto = targetOf (linkAt (memoryOf w) n)
+
+  -- by whether the walk goes on
+  abbrev stepBy : Bool → Next World
+  stepBy goes =
+      elim goes [
+        | true ↦ piece (space ∷ decimal (addressAt (memoryOf w) onto)) (inPhase (Walking onto steps) w)
+        | false ↦ piece (newline ∷ []) (inPhase Over w)
+      ]
+
+  by-onto : (goes : Bool) (to : Node) (a : Address) → cond goes (Onto onto (address (addressAt (memoryOf w) onto))) Ends ≡ Onto to a
+      → stepBy goes ≡ piece (space ∷ decimal (a .0)) (inPhase (Walking to steps) w)
+  by-onto true to a h =
+      let p : onto ≡ to = cc in
+      let q : address (addressAt (memoryOf w) onto) ≡ a = cc in
+      λ i. piece (space ∷ decimal (q i .0)) (inPhase (Walking (p i) steps) w)
+  by-onto false to a h = absurd (let z : _≡_ {A = ℕ} 0 1 = cc in omega arith)
+
+  by-ends : (goes : Bool) → cond goes (Onto onto (address (addressAt (memoryOf w) onto))) Ends ≡ Ends → stepBy goes ≡ piece (newline ∷ []) (inPhase Over w)
+  by-ends true h = absurd (let z : _≡_ {A = ℕ} 0 1 = cc in omega arith)
+  by-ends false h = refl
+
+-- a walk that has steps left
+steps-left : (steps : ℕ) (x : Walked) → x ≡ cond (eqb (suc steps) 0) Ends x
+steps-left steps x = rw (ne-eqb (suc steps) 0 (λ z. omega arith))
+
+address-next : (w : World) (n : Node) (steps : ℕ) (to : Node) (a : Address) → cond (eqb steps 0) Ends (walkedFrom (memoryOf w) n) ≡ Onto to a
+    → addressNext w n steps ≡ piece (space ∷ decimal (a .0)) (inPhase (Walking to (steps - 1)) w)
+unfolding addressNext walkedFrom
+address-next w n zero to a h = absurd (let z : _≡_ {A = ℕ} 0 1 = cc in omega arith)
+address-next w n (suc steps) to a h =
+    let d : steps ≡ suc steps - 1 = omega arith in
+    by-onto w n steps (goesOn (memoryOf w) n (targetOf (linkAt (memoryOf w) n))) to a (steps-left steps (walkedFrom (memoryOf w) n) ∙ h)
+    ∙ ap (λ (k : ℕ). piece (space ∷ decimal (a .0)) (inPhase (Walking to k) w)) d
+
+newline-next : (w : World) (n : Node) (steps : ℕ) → cond (eqb steps 0) Ends (walkedFrom (memoryOf w) n) ≡ Ends
+    → addressNext w n steps ≡ piece (newline ∷ []) (inPhase Over w)
+unfolding addressNext walkedFrom
+newline-next w n zero h = refl
+newline-next w n (suc steps) h = by-ends w n steps (goesOn (memoryOf w) n (targetOf (linkAt (memoryOf w) n))) (steps-left steps (walkedFrom (memoryOf w) n) ∙ h)
+
+pub address-piece : (file : List ℕ) (w : World) (n : Node) (steps : ℕ) (to : Node) (a : Address) → w .run .phase ≡ Walking n steps
+    → cond (eqb steps 0) Ends (walkedFrom (memoryOf w) n) ≡ Onto to a
+    → nextPiece file w ≡ piece (space ∷ decimal (a .0)) (inPhase (Walking to (steps - 1)) w)
+address-piece file w n steps to a e h = walking-piece file w n steps e ∙ address-next w n steps to a h
+
+pub newline-piece : (file : List ℕ) (w : World) (n : Node) (steps : ℕ) → w .run .phase ≡ Walking n steps
+    → cond (eqb steps 0) Ends (walkedFrom (memoryOf w) n) ≡ Ends → nextPiece file w ≡ piece (newline ∷ []) (inPhase Over w)
+newline-piece file w n steps e h = walking-piece file w n steps e ∙ newline-next w n steps h
+
+-- ---- how a run begins
+
+pub begin-got : (file addresses links deleters : List ℕ) (h : Header) (next : Cursor) (x : TablesLeft) (r : Run)
+    → headerAt file start ≡ header.Got h next → x ≡ freshTables addresses links deleters (h .nodes) (h .processes)
+    → r ≡ startOf next (x .answer) → world (x .addresses) (x .links) (x .deleters) r ≡ begins file addresses links deleters
+unfolding begins
+begin-got file addresses links deleters h next x r e made is = rw (e, begins, is, made)
+
+pub begin-refused : (file addresses links deleters : List ℕ) (number : ℕ) (r : Run) → headerAt file start ≡ header.Refused number
+    → r ≡ refusing number → world addresses links deleters r ≡ begins file addresses links deleters
+unfolding begins
+begin-refused file addresses links deleters number r e is = rw (e, begins, is)
+
+-- no deleter is looked at by the walk
+pub no-deleter : (addresses links deleters : List ℕ) (count : ℕ) (n : Node)
+    → walkedFrom (memory addresses links [] count) n ≡ walkedFrom (memory addresses links deleters count) n
+unfolding walkedFrom linkAt addressAt
+no-deleter addresses links deleters count n = refl
+
+-- where no line is to be put, a run that does not walk stops
+pub not-walking : (file : List ℕ) (w : World) (block : List ℕ) (at turns : ℕ)
+    → (tagOf phase-type.the-type (w .run .phase) ≡ 0) ⊎ ((tagOf phase-type.the-type (w .run .phase) ≡ 1) ⊎ (tagOf phase-type.the-type (w .run .phase) ≡ 3))
+    → Ready (w .run .phase) (length block - at) → stop w block at ≡ fillFrom (nextPiece file) turns w block at
+not-walking file w block at turns tag ready = by (w .run .phase) refl tag ready
+  where
+    by : (phase : Phase) → w .run .phase ≡ phase
+        → (tagOf phase-type.the-type phase ≡ 0) ⊎ ((tagOf phase-type.the-type phase ≡ 1) ⊎ (tagOf phase-type.the-type phase ≡ 3))
+        → Ready phase (length block - at) → stop w block at ≡ fillFrom (nextPiece file) turns w block at
+    by (Refusing n) e t r = full (nextPiece file) w block at turns r
+    by Acting e t r = full (nextPiece file) w block at turns r
+    by (Walking n steps) e t r =
+        absurd (⊎-elim (λ (p : 2 ≡ 0). omega arith) (⊎-elim (λ (p : 2 ≡ 1). omega arith) (λ (p : 2 ≡ 3). omega arith)) t)
+    by Over e t r = at-end (nextPiece file) w block at turns (over-nothing file w e)

@@ -1,0 +1,38 @@
+-- What the run's private functions promise; no public promise rests on it.
+use mathlib.Core.Bool.{cond}
+use mathlib.Core.List.{List, [], _++_}
+use mathlib.Core.Path.{_≡_}
+use Prim.Native.Nat.{ℕ, _<_}
+use lib.Dec.{leb}
+use Rattle.record.specs.declared.Outcome.the-variants as outcome
+use Rattle.schedule.specs.declared.EventRead.{EventRead}
+use Rattle.schedule.specs.declared.EventRead.the-variants as read
+use Rattle.text.specs.Text.{line, keysWord}
+use Rattle.run.specs.declared.Phase.{Phase}
+use Rattle.run.specs.declared.Phase.the-variants.{Refusing, Acting, Walking, Over}
+
+-- filling from where it stands comes to what filling from the start comes to, in some number of turns that is more than the room
+pub record Reaches (T : Type 0) (from : ℕ → T) (whole : T) (room : ℕ) : Type 0 where
+  pub turns : ℕ
+  pub enough : room < turns
+  pub same : from turns ≡ whole
+
+-- no event and no refusal is to be put into the room that is left
+abbrev pub Ready : Phase → (room : ℕ) → Type 0
+Ready (Refusing n) room = room < 64
+Ready Acting room = room < 64
+Ready (Walking n steps) room = Unit
+Ready Over room = Unit
+
+-- a process that is not there has the first record's place, and is refused
+unfoldable pub slotOf : ℕ → ℕ
+slotOf p = cond (leb 64 p) 0 p
+
+-- what follows the last event: the line of a refusal that stops the run, and the first word of the last line
+unfoldable pub stoppedText : (number refusal : ℕ) → List ℕ
+stoppedText number refusal = line number (outcome.Refused refusal) ++ keysWord
+
+unfoldable pub lastText : (number : ℕ) → EventRead → List ℕ
+lastText number (read.Got e next) = []
+lastText number (read.Refused n) = stoppedText number n
+lastText number read.End = keysWord

@@ -1,0 +1,130 @@
+-- The pieces of a run's output: what comes next, wherever the run stands, and how a run begins. Rests on the schedule's cursors, the place
+-- table's events, the walk along the chain and the text.
+use mathlib.Core.Bool.{true, false, cond}
+use mathlib.Core.List.{List, [], _∷_, _++_}
+use Prim.Native.Nat.{ℕ, zero, suc, _+_}
+use lib.Dec.{ltb}
+use lib.ListN.{length, replicate}
+use Rattle.record.specs.Record.{freshRecord, headNode}
+use Rattle.record.specs.declared.Node.{Node}
+use Rattle.record.specs.declared.Record.{Record}
+use Rattle.record.specs.declared.Outcome.the-variants as outcome
+use Rattle.table.specs.Words.{Memory, memory, linkAt, addressAt, targetOf, aboveAll}
+use Rattle.table.specs.Chain.{goesOn}
+use Rattle.table.specs.Events.{State, stateOf, event}
+use Rattle.list.specs.declared.Sizes.{Sizes}
+use Rattle.schedule.specs.declared.Cursor.{Cursor}
+use Rattle.schedule.specs.declared.EventRead.the-variants as read
+use Rattle.schedule.specs.declared.HeaderRead.the-variants as header
+use Rattle.schedule.specs.Cursors.{start, headerAt, eventAt}
+use Rattle.lent.specs.Fresh.{freshTables}
+use Rattle.lent.specs.declared.Made.{Made}
+use Rattle.lent.specs.declared.Made.the-variants.{Fresh, Refused}
+use Rattle.text.specs.Text.{line, decimal, keysWord, space, newline}
+use Rattle.run.specs.declared.Phase.{Phase}
+use Rattle.run.specs.declared.Phase.the-variants.{Refusing, Acting, Walking, Over}
+use Rattle.run.specs.declared.Run.{Run}
+use Rattle.run.specs.Filling.{Next, piece, nothing, Stop, fillFrom}
+
+-- everything that a run reads and changes: the lent tables, and the run by value
+pub record World : Type 0 where
+  pub addresses : List ℕ
+  pub links : List ℕ
+  pub deleters : List ℕ
+  pub run : Run
+
+abbrev pub world : List ℕ → List ℕ → List ℕ → Run → World
+world addresses links deleters run = record { addresses = addresses; links = links; deleters = deleters; run = run }
+
+abbrev pub runOf : Phase → Cursor → Sizes → ℕ → List Record → Run
+runOf phase cursor sizes number row = record { phase = phase; cursor = cursor; sizes = sizes; number = number; row = row }
+
+-- its memory, and its state in the place table
+abbrev pub memoryOf : World → Memory
+memoryOf w = memory (w .addresses) (w .links) (w .deleters) (w .run .sizes .count)
+
+abbrev pub tableOf : World → State
+tableOf w = stateOf (w .run .sizes .nodes) (w .run .sizes .processes) (memoryOf w) (w .run .row)
+
+-- the same but for its phase
+abbrev pub phase≔ : Phase → Run → Run
+phase≔ phase run = runOf phase (run .cursor) (run .sizes) (run .number) (run .row)
+
+abbrev pub inPhase : Phase → World → World
+inPhase phase w = world (w .addresses) (w .links) (w .deleters) (phase≔ phase (w .run))
+
+-- "its number from 0"; a file has fewer events than there are 32-bit numbers
+unfoldable pub nextNumber : ℕ → ℕ
+nextNumber n = cond (ltb n 4294967295) (n + 1) n
+
+-- an event acted on: the table's state after it, and the cursor after it
+abbrev pub wentOn : World → Cursor → State → World
+wentOn w next σ =
+    world (σ .memory .addresses) (σ .memory .links) (σ .memory .deleters)
+    (runOf (w .run .phase) next
+    (record { nodes = σ .nodes; processes = σ .processes; count = σ .memory .count })
+    (nextNumber (w .run .number)) (σ .row))
+
+-- the walk for the last line begins at head
+abbrev pub toWalk : World → World
+toWalk w = inPhase (Walking headNode aboveAll) w
+
+-- "An event is acted on only where it was read; otherwise the run stops there."
+unfoldable pub eventNext : (file : List ℕ) → World → Next World
+eventNext file w =
+    elim (eventAt file (w .run .cursor)) [
+      | read.Got e next ↦
+          let x = event (tableOf w) e in
+          piece (line (w .run .number) (x .outcome)) (wentOn w next (x .after))
+      | read.End ↦ piece keysWord (toWalk w)
+      | read.Refused n ↦ piece (line (w .run .number) (outcome.Refused n) ++ keysWord) (toWalk w)
+    ]
+
+-- "the address of every node on the chain between head and tail, rising, decimal, each after a space"
+unfoldable pub addressNext : World → Node → (steps : ℕ) → Next World
+addressNext w n zero = piece (newline ∷ []) (inPhase Over w)
+addressNext w n (suc steps) =
+    let onto = targetOf (linkAt (memoryOf w) n) in
+    elim (goesOn (memoryOf w) n onto) [
+      | true ↦ piece (space ∷ decimal (addressAt (memoryOf w) onto)) (inPhase (Walking onto steps) w)
+      | false ↦ piece (newline ∷ []) (inPhase Over w)
+    ]
+
+-- "A bad header prints only `0 refused N`."
+unfoldable pub nextPiece : (file : List ℕ) → World → Next World
+nextPiece file w =
+    elim (w .run .phase) [
+      | Refusing n ↦ piece (line 0 (outcome.Refused n)) (inPhase Over w)
+      | Acting ↦ eventNext file w
+      | Walking n steps ↦ addressNext w n steps
+      | Over ↦ nothing
+    ]
+
+-- what filling a block leaves; no piece is empty, so that its length and one are turns enough
+unfoldable pub fills : (file : List ℕ) → World → (block : List ℕ) → Stop World
+fills file w block = fillFrom (nextPiece file) (suc (length block)) w block 0
+
+-- ---- how a run begins
+
+-- "A fresh record is all zeros."
+abbrev pub freshRow : List Record
+freshRow = replicate 64 freshRecord
+
+-- a run that has only to say why its header was refused
+abbrev pub refusing : ℕ → Run
+refusing number = runOf (Refusing number) start (record { nodes = 0; processes = 0; count = 0 }) 0 freshRow
+
+-- "a lent table too short" is refused as a header is
+unfoldable pub startOf : Cursor → Made → Run
+startOf next (Fresh sizes) = runOf Acting next sizes 0 freshRow
+startOf next (Refused number) = refusing number
+
+-- "An accepted header makes the tables fresh; a refused one changes nothing."
+unfoldable pub begins : (file addresses links deleters : List ℕ) → World
+begins file addresses links deleters =
+    elim (headerAt file start) [
+      | header.Got h next ↦
+          let x = freshTables addresses links deleters (h .nodes) (h .processes) in
+          world (x .addresses) (x .links) (x .deleters) (startOf next (x .answer))
+      | header.Refused number ↦ world addresses links deleters (refusing number)
+    ]

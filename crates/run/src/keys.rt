@@ -1,0 +1,105 @@
+// The last line: the addresses on the chain, from where the walk along it stands.
+use crate::Filled;
+use crate::Phase;
+use crate::Run;
+use chain::Walked;
+use chain::walk_on;
+use record::Node;
+use text::put_address;
+use text::put_newline;
+ghost use mathlib.Core.Path.{_≡_};
+ghost use mathlib.Core.Bool.{cond};
+ghost use mathlib.Core.List.{List, []};
+ghost use Prim.Native.Nat.{ℕ, _<_, _≤_, _-_};
+ghost use lib.Dec.{eqb};
+ghost use lib.ListN.{length};
+ghost use Rattle.table.specs.Words.{memory};
+ghost use Rattle.chain.specs.Walking.{walkedFrom};
+ghost use Rattle.chain.specs.declared.Walked.the-variants.{Ends};
+ghost use Rattle.run.specs.declared.Phase.the-variants.{Walking};
+ghost use Rattle.run.specs.Filling.{stop, fillFrom};
+ghost use Rattle.run.specs.Pieces.{world, nextPiece};
+ghost use Rattle.run.specs.Parts.{Ready};
+
+// One step of the walk, while it has steps left.
+fn walk_within(addresses: &[u32], links: &[u32], count: u32, from: Node, steps: u64) -> Walked
+    ensures { λ r. ⌜ r ≡ cond (eqb steps 0) Ends (walkedFrom (memory (now (addresses .entry)) (now (links .entry)) [] count) from) ⌝ }
+{
+    if steps == 0 {
+        return Walked::Ends;
+    }
+    walk_on(addresses, links, count, from)
+}
+
+// One step fewer.
+fn fewer(steps: u64) -> u64
+    ensures { λ r. ⌜ r ≡ steps - 1 ⌝ }
+{
+    if steps == 0 {
+        return 0;
+    }
+    steps - 1
+}
+
+// Addresses, until the block has no room for one more or the line is ended.
+fn fill_addresses(
+    addresses: &[u32],
+    links: &[u32],
+    block: &mut [u8],
+    from: usize,
+    run: Run,
+    node: Node,
+    steps: u64,
+) -> Filled
+    requires { ⌜ from ≤ length (now block) ⌝ }
+    requires { ⌜ run .phase ≡ Walking node steps ⌝ }
+    ensures { λ r. ⌜ ((file deleters : List ℕ) (turns : ℕ) → length (now (block .entry)) - from < turns → stop (world (now (addresses .entry)) (now (links .entry)) deleters (r .run)) (now (block .exit)) (r .count) ≡ fillFrom (nextPiece file) turns (world (now (addresses .entry)) (now (links .entry)) deleters run) (now (block .entry)) from) ⌝ }
+    ensures { λ r. ⌜ r .count ≤ length (now (block .exit)) ⌝ }
+{
+    let count = run.sizes.count;
+    let mut at = from;
+    let mut here = node;
+    let mut left = steps;
+    loop {
+        if block.len() - at < 64 {
+            let walking = run.in_phase(Phase::Walking(here, left));
+            return Filled {
+                count: at,
+                run: walking,
+            };
+        }
+        let walked = walk_within(addresses, links, count, here, left);
+        let Walked::Onto(onto, address) = walked else {
+            let m = put_newline(&mut block[at..]);
+            let over = run.in_phase(Phase::Over);
+            return Filled {
+                count: at + m,
+                run: over,
+            };
+        };
+        here = onto;
+        left = fewer(left);
+        let k = put_address(&mut block[at..], address);
+        at = at + k;
+    }
+}
+
+// The last line, where the run has come to it.
+pub(crate) fn fill_keys(
+    addresses: &[u32],
+    links: &[u32],
+    block: &mut [u8],
+    from: usize,
+    run: Run,
+) -> Filled
+    requires { ⌜ from ≤ length (now block) ⌝ }
+    requires { ⌜ Ready (run .phase) (length (now block) - from) ⌝ }
+    ensures { λ r. ⌜ ((file deleters : List ℕ) (turns : ℕ) → length (now (block .entry)) - from < turns → stop (world (now (addresses .entry)) (now (links .entry)) deleters (r .run)) (now (block .exit)) (r .count) ≡ fillFrom (nextPiece file) turns (world (now (addresses .entry)) (now (links .entry)) deleters run) (now (block .entry)) from) ⌝ }
+    ensures { λ r. ⌜ r .count ≤ length (now (block .exit)) ⌝ }
+{
+    let phase = run.phase;
+    let Phase::Walking(node, steps) = phase else {
+        return Filled { count: from, run };
+    };
+    fill_addresses(addresses, links, block, from, run, node, steps)
+}

@@ -1,0 +1,132 @@
+// Lines: each event read, acted on and told; then what follows the last event.
+use crate::Filled;
+use crate::Phase;
+use crate::Run;
+use list::act;
+use record::Event;
+use record::Node;
+use record::Outcome;
+use record::Process;
+use schedule::EventRead;
+use schedule::read_event;
+use text::put_keys;
+use text::put_line;
+ghost use mathlib.Core.Path.{_≡_};
+ghost use Prim.Native.Nat.{_<_, _≤_, _-_};
+ghost use lib.ListN.{length};
+ghost use Rattle.record.specs.Event.{processOf};
+ghost use Rattle.text.specs.Put.{put, puts};
+ghost use Rattle.run.specs.declared.Phase.the-variants.{Acting};
+ghost use Rattle.run.specs.Filling.{Stop, fillFrom};
+ghost use Rattle.run.specs.Pieces.{World, world, nextNumber, nextPiece, fills};
+ghost use Rattle.run.specs.Parts.{Reaches, Ready, slotOf, stoppedText, lastText};
+
+// The place of a process's record in the row.
+fn slot(process: Process) -> usize
+    ensures { λ r. ⌜ r ≡ slotOf (process .0) ⌝ }
+    ensures { λ r. ⌜ r < 64 ⌝ }
+{
+    if 64 <= process.0 {
+        return 0;
+    }
+    process.0 as usize
+}
+
+// The place of the record of an event's process.
+fn slot_for(event: Event) -> usize
+    ensures { λ r. ⌜ r ≡ slotOf (processOf event .0) ⌝ }
+    ensures { λ r. ⌜ r < 64 ⌝ }
+{
+    match event {
+        Event::Insert(process, _) => slot(process),
+        Event::Delete(process, _) => slot(process),
+        Event::Find(process, _) => slot(process),
+        Event::Step(process) => slot(process),
+        Event::Stop(process) => slot(process),
+        Event::Restart(process) => slot(process),
+    }
+}
+
+// The number of the next line.
+fn number_after(number: u32) -> u32
+    ensures { λ r. ⌜ r ≡ nextNumber number ⌝ }
+{
+    if number < 4294967295 {
+        return number + 1;
+    }
+    number
+}
+
+// The line of a refusal that stops the run, and the first word of the last line.
+fn put_stopped(part: &mut [u8], number: u32, refusal: u8) -> usize
+    requires { ⌜ 64 ≤ length (now part) ⌝ }
+    ensures { λ r. ⌜ put (now (part .exit)) r ≡ puts (stoppedText number refusal) (now (part .entry)) ⌝ }
+    ensures { λ r. ⌜ r ≤ 34 ⌝ }
+{
+    let k = put_line(part, number, Outcome::Refused(refusal));
+    let m = put_keys(&mut part[k..]);
+    k + m
+}
+
+// What follows the last event.
+fn put_last(part: &mut [u8], number: u32, read: EventRead) -> usize
+    requires { ⌜ 64 ≤ length (now part) ⌝ }
+    ensures { λ r. ⌜ put (now (part .exit)) r ≡ puts (lastText number read) (now (part .entry)) ⌝ }
+    ensures { λ r. ⌜ r ≤ 34 ⌝ }
+{
+    match read {
+        EventRead::Got(_, _) => 0,
+        EventRead::End => put_keys(part),
+        EventRead::Refused(refusal) => put_stopped(part, number, refusal),
+    }
+}
+
+// Lines, until the block has no room for one more or the events are over.
+pub(crate) fn fill_lines(
+    file: &[u8],
+    addresses: &mut [u32],
+    links: &mut [u32],
+    deleters: &mut [u32],
+    block: &mut [u8],
+    run: Run,
+) -> Filled
+    requires { ⌜ run .phase ≡ Acting ⌝ }
+    ensures { λ r. ⌜ Reaches (Stop World) (λ turns. fillFrom (nextPiece (now (file .entry))) turns (world (now (addresses .exit)) (now (links .exit)) (now (deleters .exit)) (r .run)) (now (block .exit)) (r .count)) (fills (now (file .entry)) (world (now (addresses .entry)) (now (links .entry)) (now (deleters .entry)) run) (now (block .entry))) (length (now (block .exit)) - r .count) ⌝ }
+    ensures { λ r. ⌜ r .count ≤ length (now (block .exit)) ⌝ }
+    ensures { λ r. ⌜ Ready (r .run .phase) (length (now (block .exit)) - r .count) ⌝ }
+{
+    let mut state = run;
+    let mut at: usize = 0;
+    loop {
+        if block.len() - at < 64 {
+            return Filled {
+                count: at,
+                run: state,
+            };
+        }
+        let cursor = state.cursor;
+        let number = state.number;
+        let read = read_event(file, cursor);
+        let EventRead::Got(event, next) = read else {
+            let m = put_last(&mut block[at..], number, read);
+            let walking = state.in_phase(Phase::Walking(Node(0), 4294967297));
+            return Filled {
+                count: at + m,
+                run: walking,
+            };
+        };
+        let p = slot_for(event);
+        let record = state.row[p];
+        let acted = act(addresses, links, deleters, state.sizes, record, event);
+        let advanced = acted.advanced;
+        let outcome = acted.outcome;
+        let sizes = acted.sizes;
+        state.row[p] = advanced;
+        state.cursor = next;
+        state.sizes = sizes;
+        let following = number_after(number);
+        state.number = following;
+        let k = put_line(&mut block[at..], number, outcome);
+        at = at + k;
+    }
+}

@@ -1,0 +1,161 @@
+-- The arrays keep their lengths; the count of files left falls.
+use mathlib.Core.Path.{_≡_, sym, _∙_}
+use Prim.Native.Nat.{ℕ, _-_}
+use lib.ListN.{length}
+use lib.Seq.{length-take-le}
+use borrow.Author.Needs.{needs}
+use Rattle.schedules.proofs.main.Statement.{statement}
+use Rattle.schedules.proofs.main.Tie as tie
+
+-- what the loop keeps
+record Lengths (groups file addresses links deleters block : ℕ) : Type 0 where
+  groups-are : groups ≡ 5
+  file-is : file ≡ 65537
+  addresses-are : addresses ≡ 4096
+  links-are : links ≡ 4096
+  deleters-are : deleters ≡ 4096
+  block-is : block ≡ 65536
+
+abbrev Inv-loop : tie.InvT-loop
+Inv-loop groups₀ file₀ addresses₀ links₀ deleters₀ block₀ left₀ groups file addresses links deleters block left =
+    Lengths (length groups) (length file) (length addresses) (length links) (length deleters) (length block)
+
+abbrev μ-loop : tie.MeasureT-loop
+μ-loop groups₀ file₀ addresses₀ links₀ deleters₀ block₀ left₀ groups file addresses links deleters block left = left
+
+loop-holds : tie.Need-loop-holds Inv-loop μ-loop
+loop-holds c = record { groups-are = search needs; file-is = search needs; addresses-are = search needs; links-are = search needs; deleters-are = search needs; block-is = search needs }
+
+sub-left : tie.Need-sub-left Inv-loop μ-loop
+sub-left c = search needs
+
+slice-aggregate-read-groups : tie.Need-slice-aggregate-read-groups Inv-loop μ-loop
+slice-aggregate-read-groups c = search needs
+
+read-groups-requires : tie.Need-read-groups-requires Inv-loop μ-loop
+read-groups-requires c κs = search needs
+
+array-share-prefix-groups : tie.Need-array-share-prefix-groups Inv-loop μ-loop
+array-share-prefix-groups c = search needs
+
+slice-aggregate-read-number : tie.Need-slice-aggregate-read-number Inv-loop μ-loop
+slice-aggregate-read-number c = sym (length-take-le _ _ (c .before .before .read-groups .ensures))
+
+read-number-requires : tie.Need-read-number-requires Inv-loop μ-loop
+read-number-requires c κs = search needs
+
+enum-known-read : tie.Need-enum-known-read Inv-loop μ-loop
+enum-known-read c = search needs
+
+enum-told : tie.Need-enum-told Inv-loop μ-loop
+enum-told c = search needs
+
+returns : tie.Need-returns Inv-loop μ-loop
+returns c = search needs
+
+slice-aggregate-read-some : tie.Need-slice-aggregate-read-some Inv-loop μ-loop
+slice-aggregate-read-some c = search needs
+
+cast-read-some : tie.Need-cast-read-some Inv-loop μ-loop
+cast-read-some c = search needs
+
+read-some-requires : tie.Need-read-some-requires Inv-loop μ-loop
+read-some-requires c κs = search needs
+
+slice-aggregate-drop-bytes : tie.Need-slice-aggregate-drop-bytes Inv-loop μ-loop
+slice-aggregate-drop-bytes c = search needs
+
+cast-drop-bytes : tie.Need-cast-drop-bytes Inv-loop μ-loop
+cast-drop-bytes c = search needs
+
+sub-drop-bytes : tie.Need-sub-drop-bytes Inv-loop μ-loop
+sub-drop-bytes c = search needs
+
+drop-bytes-requires : tie.Need-drop-bytes-requires Inv-loop μ-loop
+drop-bytes-requires c κs = search needs
+
+array-share-prefix-file : tie.Need-array-share-prefix-file Inv-loop μ-loop
+array-share-prefix-file c = search needs
+
+slice-aggregate-print-output : tie.Need-slice-aggregate-print-output Inv-loop μ-loop
+slice-aggregate-print-output c =
+    let c5 = c .before .before .before .before .before in
+    sym (length-take-le _ _ (c5 .read-some .ensures .1))
+
+slice-aggregate-print-output-2 : tie.Need-slice-aggregate-print-output-2 Inv-loop μ-loop
+slice-aggregate-print-output-2 c = search needs
+
+slice-aggregate-print-output-3 : tie.Need-slice-aggregate-print-output-3 Inv-loop μ-loop
+slice-aggregate-print-output-3 c = search needs
+
+slice-aggregate-print-output-4 : tie.Need-slice-aggregate-print-output-4 Inv-loop μ-loop
+slice-aggregate-print-output-4 c = search needs
+
+slice-aggregate-print-output-5 : tie.Need-slice-aggregate-print-output-5 Inv-loop μ-loop
+slice-aggregate-print-output-5 c = search needs
+
+print-output-requires : tie.Need-print-output-requires Inv-loop μ-loop
+print-output-requires c κs = search needs
+
+returns-2 : tie.Need-returns-2 Inv-loop μ-loop
+returns-2 c = search needs
+
+loop-less : tie.Need-loop-less Inv-loop μ-loop
+loop-less c = search needs
+
+loop-again : tie.Need-loop-again Inv-loop μ-loop
+loop-again c =
+    let c5 = c .before .before .before .before .before in
+    let c12 = c5 .before .before .before .before .before .before .before in
+    let c15 = c12 .before .before .before in
+    let c23 = c15 .before .before .before .before .before .before .before .before in
+    let c26 = c23 .before .before .before in
+    let v = c26 .loop .inv in
+    let p = c5 .print-output in
+    record {
+      groups-are = c23 .read-groups .kept .0 ∙ v .groups-are;
+      file-is = c15 .read-some .kept .0 ∙ v .file-is;
+      addresses-are = p .kept .1 .0 ∙ v .addresses-are;
+      links-are = p .kept .1 .1 .0 ∙ v .links-are;
+      deleters-are = p .kept .1 .1 .1 .0 ∙ v .deleters-are;
+      block-is = p .kept .1 .1 .1 .1 .0 ∙
+          (c12 .drop-bytes .kept .0 ∙ v .block-is);
+    }
+
+returns-3 : tie.Need-returns-3 Inv-loop μ-loop
+returns-3 c = search needs
+
+pub main-spec : {M : Type 1} → statement M
+main-spec =
+    tie.close
+    (tie.spec
+    Inv-loop
+    μ-loop
+    loop-holds
+    sub-left
+    slice-aggregate-read-groups
+    read-groups-requires
+    array-share-prefix-groups
+    slice-aggregate-read-number
+    read-number-requires
+    enum-known-read
+    enum-told
+    returns
+    slice-aggregate-read-some
+    cast-read-some
+    read-some-requires
+    slice-aggregate-drop-bytes
+    cast-drop-bytes
+    sub-drop-bytes
+    drop-bytes-requires
+    array-share-prefix-file
+    slice-aggregate-print-output
+    slice-aggregate-print-output-2
+    slice-aggregate-print-output-3
+    slice-aggregate-print-output-4
+    slice-aggregate-print-output-5
+    print-output-requires
+    returns-2
+    loop-less
+    loop-again
+    returns-3)
