@@ -1,5 +1,5 @@
 -- Events and outcomes of 01: the number and the values of each case. Rests on the declared types alone.
-use Prim.Native.Nat.{ℕ}
+use Prim.Native.Nat.{ℕ, zero, suc}
 use mathlib.Core.Option.{Option, none, some}
 use Rattle.record.specs.declared.Process.{Process}
 use Rattle.record.specs.declared.Address.{Address}
@@ -7,7 +7,6 @@ use Rattle.record.specs.declared.Event.{Event}
 use Rattle.record.specs.declared.Event.the-variants.{Insert, Delete, Find, Step, Stop, Restart}
 use Rattle.record.specs.declared.Outcome.{Outcome}
 use Rattle.record.specs.declared.Outcome.the-variants.{Refused, Accepted, Answered}
-use Rattle.record.specs.Record.{NoAnswer}
 
 -- "Kinds 0, 1, 2: insert, delete, find"; "Kind 3: one step"; "Kind 4: .. goes down"; "Kind 5: .. becomes running"
 abbrev pub kindOf : Event → ℕ
@@ -35,14 +34,13 @@ addressOf (Step p) = none
 addressOf (Stop p) = none
 addressOf (Restart p) = none
 
--- the refusal's number, 0 for an accepted event
-abbrev pub refusalOf : Outcome → ℕ
-refusalOf (Refused n) = n
-refusalOf Accepted = 0
-refusalOf (Answered v) = 0
+-- "Where an answer is an enum, a definition sets out this paper's number and values for each of its cases.": an outcome by its refusal's
+-- number, 0 for none, and the answer that is handed out, if one is ("Results: .. false 1, true 2, fail 3")
+abbrev pub outcomeOf : (refusal : ℕ) → (answer : Option ℕ) → Outcome
+outcomeOf zero none = Accepted
+outcomeOf zero (some answer) = Answered answer
+outcomeOf (suc refusal) answer = Refused (suc refusal)
 
--- the answer handed out, by the numbers of the results (false 1, true 2, fail 3), none where nothing is
-abbrev pub answerOf : Outcome → ℕ
-answerOf (Refused n) = NoAnswer
-answerOf Accepted = NoAnswer
-answerOf (Answered v) = v
+-- accepted, and nothing handed out
+abbrev pub accepted : Outcome
+accepted = outcomeOf 0 none

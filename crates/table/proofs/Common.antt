@@ -32,7 +32,7 @@ pub use Rattle.table.specs.Places.{Place, p0, p1, p2, p3, p4, p5, p6, p7
 unfoldable pub use Rattle.table.specs.Places.{placeOf, row, searchEnds}
 pub use Rattle.table.specs.Steps.{accessOf, recordAfter}
 unfoldable pub use Rattle.table.specs.Steps.{wordMet, turnIn, inRange}
-pub use Rattle.table.specs.Events.{Acted, refused, statusNeeded, State, stateOf, Leaves}
+pub use Rattle.table.specs.Events.{Acted, acted, statusNeeded, State, stateOf, Leaves}
 unfoldable pub use Rattle.table.specs.Events.{stepOf, does, sizesFit, tablesFit, act, recordIn, stored, event}
 pub use Rattle.table.specs.Chain.{Reach, here, next, OnChain, Struck, HeldBy, Held, follows}
 pub use Rattle.table.specs.History.{Answer, Operation, Set, History}

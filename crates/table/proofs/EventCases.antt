@@ -2,7 +2,7 @@
 use Rattle.table.proofs.Common.{_≡_, refl, ap, _≢_, true, _&&_, ℕ, _≤_, _<_, arith, leb, length, set, set-getD, getD-set-same, getD-set-other}
 use Rattle.table.proofs.Common.{leb-true, process, noNode, Idle, Running, Down, Inserts, Deletes, Finds, freshRecord, requested, wentDown}
 use Rattle.table.proofs.Common.{restarted, processOf, Process, Address, Record, Event, Insert, Delete, Find, Step, Stop, Restart, Outcome}
-use Rattle.table.proofs.Common.{Refused, Accepted, Memory, written, nextNode, givenOut, Place, placeOf, row, turnIn, inRange, refused, stepOf}
+use Rattle.table.proofs.Common.{Refused, Accepted, Memory, written, nextNode, givenOut, Place, placeOf, row, turnIn, inRange, acted, stepOf}
 use Rattle.table.proofs.Common.{does, statusNeeded, sizesFit, tablesFit, act, State, stateOf, recordIn, Leaves, stored, event}
 use Rattle.table.proofs.Tests.{if, if-eq, if-lt, if-le, and-left, and-right}
 use Rattle.table.proofs.Numbered.{nextIn}
@@ -52,11 +52,11 @@ pub data Happens (σ : State) : Event → Leaves → Type 0 where
   restarts : {p : Process} → Able σ (p .0) Down → Happens σ (Restart p) (leaves (stateWith σ (p .0) (σ .memory) (restarted (recordIn σ p))) Accepted)
 
 module _ (σ : State) where
-  refused-stored : (p : Process) (k : ℕ) → stored σ p (refused (σ .memory) (recordIn σ p) k) ≡ leaves σ (Refused k)
+  refused-stored : (p : Process) (k : ℕ) → stored σ p (acted (σ .memory) (recordIn σ p) (Refused k)) ≡ leaves σ (Refused k)
   unfolding stored recordIn
   refused-stored p k = ap (λ row. leaves (stateOf (σ .nodes) (σ .processes) (σ .memory) row) (Refused k)) (set-getD (σ .row) (p .0) freshRecord)
 
-  refuses-stored : (e : Event) (p : Process) (k : ℕ) → Happens σ e (stored σ p (refused (σ .memory) (recordIn σ p) k))
+  refuses-stored : (e : Event) (p : Process) (k : ℕ) → Happens σ e (stored σ p (acted (σ .memory) (recordIn σ p) (Refused k)))
   refuses-stored e p k = rw (refused-stored p k) (refuses k)
 
   -- an event of a process that is there, with tables that fit

@@ -20,7 +20,7 @@ use Rattle.record.specs.declared.Outcome.the-variants.{Refused, Accepted, Answe
 use Rattle.table.specs.Words.{Memory, addressAt, inUse, givenOut, Write, nothing, linkIs, deleterIs, written}
 use Rattle.table.specs.Places.{Row, readLink, writeLink, swapLink, readDeleter, swapDeleter, writeNode, ownRecord, handOut, row, placeOf}
 use Rattle.table.specs.Steps.{accessOf, turnIn}
-use Rattle.table.specs.Events.{Acted, acted, refused, stepOf, does, act, State, stateOf, recordIn, Leaves, stored, event}
+use Rattle.table.specs.Events.{Acted, acted, stepOf, does, act, State, stateOf, recordIn, Leaves, stored, event}
 use Rattle.table.proofs.Meets.{step-meets, insert-meets, act-meets, event-meets}
 
 -- ---- "nothing changed"
@@ -44,9 +44,9 @@ says-no-refusal p r (handOut answer after) n e = never-answered e
 
 -- where an event was refused, the memory and the record are as they were
 abbrev Unchanged : Memory → Record → Acted → Type 0
-Unchanged m r d = (n : ℕ) → d .outcome ≡ Refused n → d ≡ refused m r n
+Unchanged m r d = (n : ℕ) → d .outcome ≡ Refused n → d ≡ acted m r (Refused n)
 
-refused-is : (m : Memory) (r : Record) (n : ℕ) → Unchanged m r (refused m r n)
+refused-is : (m : Memory) (r : Record) (n : ℕ) → Unchanged m r (acted m r (Refused n))
 refused-is m r n k e = ap (λ o. acted m r o) e
 
 does-refused : (nodes : ℕ) (m : Memory) (r : Record) (e : Event) → Unchanged m r (does nodes m r e)
@@ -62,7 +62,7 @@ does-refused nodes m r (Stop p) = λ n e. absurd (never e)
 does-refused nodes m r (Restart p) = λ n e. absurd (never e)
 
 pub refused-act-changes-nothing : (nodes processes : ℕ) (m : Memory) (r : Record) (e : Event) (n : ℕ)
-    → act nodes processes m r e .outcome ≡ Refused n → act nodes processes m r e ≡ refused m r n
+    → act nodes processes m r e .outcome ≡ Refused n → act nodes processes m r e ≡ acted m r (Refused n)
 refused-act-changes-nothing nodes processes m r e =
     act-meets (Unchanged m r) m r nodes processes e (refused-is m r) (λ fit there. does-refused nodes m r e)
 
@@ -107,7 +107,7 @@ count-written (deleterIs n word) m = refl
 abbrev Counts : Memory → Event → Acted → Type 0
 Counts m e d = d .memory .count ≡ countAfter e (d .outcome) (m .count)
 
-refused-counts : (m : Memory) (r : Record) (e : Event) (n : ℕ) → Counts m e (refused m r n)
+refused-counts : (m : Memory) (r : Record) (e : Event) (n : ℕ) → Counts m e (acted m r (Refused n))
 unfolding countAfter
 refused-counts m r (Insert p a) n = refl
 refused-counts m r (Delete p a) n = refl

@@ -29,7 +29,7 @@ module _ (P : Acted → Type 0) (m : Memory) (r : Record) where
   unfolding does
   insert-meets nodes p a refusal done = if P (eqb (m .count) nodes) (λ full. refusal) (λ room. done)
 
-  pub act-meets : (nodes processes : ℕ) (e : Event) → ((n : ℕ) → P (refused m r n))
+  pub act-meets : (nodes processes : ℕ) (e : Event) → ((n : ℕ) → P (acted m r (Refused n)))
       → (tablesFit nodes processes m ≡ true → ltb (processOf e .0) processes ≡ true → P (does nodes m r e)) → P (act nodes processes m r e)
   unfolding act
   act-meets nodes processes e refusal done =

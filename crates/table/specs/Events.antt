@@ -1,18 +1,18 @@
 -- 01's events and the refusals of an event in their order, on one record and on a row of records; fresh tables; runs. Rests on Steps.
 use mathlib.Core.Bool.{Bool, true, false, cond, not, _&&_, _||_}
 use mathlib.Core.List.{List, [], _∷_}
+use mathlib.Core.Option.{none}
 use Prim.Native.Nat.{ℕ, _+_}
 use lib.Dec.{leb, ltb, eqb}
 use lib.ListN.{length, getD, set, replicate}
 use Rattle.record.specs.Record.{freshRecord, requested, wentDown, restarted, noNode, Idle, Running, Down, Inserts, Deletes, Finds}
-use Rattle.record.specs.Event.{processOf}
+use Rattle.record.specs.Event.{processOf, outcomeOf, accepted}
 use Rattle.record.specs.declared.Node.{Node}
 use Rattle.record.specs.declared.Process.{Process}
 use Rattle.record.specs.declared.Record.{Record}
 use Rattle.record.specs.declared.Event.{Event}
 use Rattle.record.specs.declared.Event.the-variants.{Insert, Delete, Find, Step, Stop, Restart}
 use Rattle.record.specs.declared.Outcome.{Outcome}
-use Rattle.record.specs.declared.Outcome.the-variants.{Refused, Accepted, Answered}
 use Rattle.table.specs.Words.{Memory, nextNode, givenOut, written, freshMemory}
 use Rattle.table.specs.Steps.{Turn, turnIn}
 
@@ -29,7 +29,7 @@ acted m r o = record { memory = m; advanced = r; outcome = o }
 
 -- "nothing changed"
 abbrev pub refused : Memory → Record → ℕ → Acted
-refused m r number = acted m r (Refused number)
+refused m r number = acted m r (outcomeOf number none)
 
 -- "Kind 3: one step of a running process.", or refusal 8
 unfoldable pub stepOf : Memory → Process → Record → Acted
@@ -49,12 +49,12 @@ statusNeeded (Restart p) = Down
 -- an event of a process that is there and has the status it needs
 unfoldable pub does : (nodes : ℕ) → Memory → Record → Event → Acted
 does nodes m r (Insert p a) =
-    cond (eqb (m .count) nodes) (refused m r 3) (acted (givenOut a m) (requested 0 Inserts a (nextNode m)) Accepted)
-does nodes m r (Delete p a) = acted m (requested 0 Deletes a noNode) Accepted
-does nodes m r (Find p a) = acted m (requested 11 Finds a noNode) Accepted
+    cond (eqb (m .count) nodes) (refused m r 3) (acted (givenOut a m) (requested 0 Inserts a (nextNode m)) accepted)
+does nodes m r (Delete p a) = acted m (requested 0 Deletes a noNode) accepted
+does nodes m r (Find p a) = acted m (requested 11 Finds a noNode) accepted
 does nodes m r (Step p) = stepOf m p r
-does nodes m r (Stop p) = acted m (wentDown r) Accepted
-does nodes m r (Restart p) = acted m (restarted r) Accepted
+does nodes m r (Stop p) = acted m (wentDown r) accepted
+does nodes m r (Restart p) = acted m (restarted r) accepted
 
 -- "Nodes: 2 to 4,096, including head (node 0) and tail (node 1). Processes: 1 to 64"
 unfoldable pub sizesFit : (nodes processes : ℕ) → Bool
@@ -109,7 +109,7 @@ unfoldable pub event : State → Event → Leaves
 event σ e =
     cond (leb (σ .processes) (length (σ .row)))
     (stored σ (processOf e) (act (σ .nodes) (σ .processes) (σ .memory) (recordIn σ (processOf e)) e))
-    (record { after = σ; outcome = Refused 7 })
+    (record { after = σ; outcome = outcomeOf 7 none })
 
 -- ---- runs
 

@@ -9,8 +9,6 @@ use Rattle.record.specs.Record.{NoAnswer, False, True, Fail}
 use Rattle.record.specs.declared.Node.{Node}
 use Rattle.record.specs.declared.Process.{Process}
 use Rattle.record.specs.declared.Record.{Record}
-use Rattle.record.specs.declared.Outcome.{Outcome}
-use Rattle.record.specs.declared.Outcome.the-variants.{Refused, Accepted, Answered}
 use Rattle.table.specs.Words.{Memory, linkAt, deleterAt, linkWord, targetOf, isMarked, noDeleter, deleterWord, inUse, below, equal}
 use Rattle.table.specs.Words.{Write, nothing, linkIs, deleterIs}
 

@@ -1,6 +1,7 @@
 -- One step: what a row of the place table uses, meets, writes and leaves, and 01's refusal 8. Rests on Words and Places.
 use mathlib.Core.Bool.{Bool, true, false, cond, not, _&&_, _||_}
 use mathlib.Core.List.{List, [], _∷_}
+use mathlib.Core.Option.{some}
 use Prim.Native.Nat.{ℕ}
 use lib.Dec.{leb, ltb, eqb}
 use Rattle.record.specs.Record.{Finds, NoAnswer, Fail}
@@ -8,7 +9,7 @@ use Rattle.record.specs.declared.Node.{Node}
 use Rattle.record.specs.declared.Process.{Process}
 use Rattle.record.specs.declared.Record.{Record}
 use Rattle.record.specs.declared.Outcome.{Outcome}
-use Rattle.record.specs.declared.Outcome.the-variants.{Refused, Accepted, Answered}
+use Rattle.record.specs.Event.{outcomeOf, accepted}
 use Rattle.table.specs.Words.{Memory, linkAt, deleterAt, targetOf, isMarked, noDeleter, deleterWord, inUse, written}
 use Rattle.table.specs.Words.{Write, nothing, linkIs, deleterIs}
 use Rattle.table.specs.Places.{Field, head, pred, curr, succ, own, nodeOf, Link, unmarked, marked, linkOf, Next, goes, usesOwn}
@@ -45,21 +46,21 @@ fieldOf l = elim l [ unmarked f ↦ f | marked f ↦ f ]
 -- "A swap compares the whole link or deleter word and writes only if equal."
 abbrev pub accessOf : Process → Record → Row → Access
 accessOf p r (readLink f follows) =
-    access (f ∷ []) (link f) (λ w. targetOf w ∷ []) (λ w. nothing) (λ w. follows (targetOf w) (isMarked w)) Accepted
+    access (f ∷ []) (link f) (λ w. targetOf w ∷ []) (λ w. nothing) (λ w. follows (targetOf w) (isMarked w)) accepted
 accessOf p r (writeLink f new after) =
-    access (f ∷ fieldOf new ∷ []) (link f) (λ w. []) (λ w. linkIs (nodeOf r f) (linkOf r new)) (λ w. goes after) Accepted
+    access (f ∷ fieldOf new ∷ []) (link f) (λ w. []) (λ w. linkIs (nodeOf r f) (linkOf r new)) (λ w. goes after) accepted
 accessOf p r (swapLink f old new done lost) =
     access (f ∷ fieldOf old ∷ fieldOf new ∷ []) (link f) (λ w. [])
     (λ w. cond (eqb w (linkOf r old)) (linkIs (nodeOf r f) (linkOf r new)) nothing)
-    (λ w. goes (cond (eqb w (linkOf r old)) done lost)) Accepted
+    (λ w. goes (cond (eqb w (linkOf r old)) done lost)) accepted
 accessOf p r (readDeleter f follows) =
-    access (f ∷ []) (deleter f) (λ w. []) (λ w. nothing) (λ w. goes (follows (eqb w (deleterWord p)))) Accepted
+    access (f ∷ []) (deleter f) (λ w. []) (λ w. nothing) (λ w. goes (follows (eqb w (deleterWord p)))) accepted
 accessOf p r (swapDeleter f after) =
     access (f ∷ []) (deleter f) (λ w. [])
-    (λ w. cond (eqb w noDeleter) (deleterIs (nodeOf r f) (deleterWord p)) nothing) (λ w. goes after) Accepted
-accessOf p r (writeNode f after) = access (f ∷ []) noWord (λ w. []) (λ w. nothing) (λ w. goes after) Accepted
-accessOf p r (ownRecord after) = access [] noWord (λ w. []) (λ w. nothing) (λ w. goes after) Accepted
-accessOf p r (handOut answer after) = access [] noWord (λ w. []) (λ w. nothing) (λ w. goes after) (Answered answer)
+    (λ w. cond (eqb w noDeleter) (deleterIs (nodeOf r f) (deleterWord p)) nothing) (λ w. goes after) accepted
+accessOf p r (writeNode f after) = access (f ∷ []) noWord (λ w. []) (λ w. nothing) (λ w. goes after) accepted
+accessOf p r (ownRecord after) = access [] noWord (λ w. []) (λ w. nothing) (λ w. goes after) accepted
+accessOf p r (handOut answer after) = access [] noWord (λ w. []) (λ w. nothing) (λ w. goes after) (outcomeOf 0 (some answer))
 
 -- ---- "Refusal 8"
 
