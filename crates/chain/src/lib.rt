@@ -8,9 +8,9 @@ ghost use Rattle.table.specs.Words.{memory, rank};
 ghost use Rattle.table.specs.Events.{sizesFit, tablesFit};
 ghost use Rattle.chain.specs.Walking.{onwardFrom, walkedFrom};
 ghost use Rattle.chain.specs.Keys.{left, readKeys, keysOf};
-use list::Sizes;
 use record::Address;
 use record::Node;
+use words::Sizes;
 
 // What the walk along the chain meets after a node: a node to go on to, or why it stops.
 pub enum Met {

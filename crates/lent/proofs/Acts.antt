@@ -11,11 +11,11 @@ use Rattle.record.specs.declared.Record.{Record}
 use Rattle.record.specs.declared.Event.{Event}
 use Rattle.record.proofs.Event as event-type
 use Rattle.record.proofs.Event.Laws as event-laws
-use Rattle.list.specs.declared.Sizes.{Sizes}
+use Rattle.words.specs.declared.Sizes.{Sizes}
 use Rattle.list.specs.declared.Acted.{Acted}
 use Rattle.list.specs.Acting.{left, actOn}
-use Rattle.list.proofs.Sizes as sizes-type
-use Rattle.list.proofs.Sizes.Laws as sizes-laws
+use Rattle.words.proofs.Sizes as sizes-type
+use Rattle.words.proofs.Sizes.Laws as sizes-laws
 use Rattle.list.proofs.Acted as acted-type
 use Rattle.list.proofs.Acted.Laws as acted-laws
 use Rattle.list.proofs.act as callee

@@ -6,7 +6,7 @@ use Rattle.record.specs.declared.Record.{Record}
 use Rattle.record.specs.declared.Event.{Event}
 use Rattle.record.specs.declared.Outcome.{Outcome}
 use Rattle.table.specs.Events.{Leaves}
-use Rattle.list.specs.declared.Sizes.{Sizes}
+use Rattle.words.specs.declared.Sizes.{Sizes}
 use Rattle.list.specs.Acting.{Left, left, actOn}
 use Rattle.lent.specs.declared.Said.{Said}
 use Rattle.lent.specs.declared.Made.{Made}

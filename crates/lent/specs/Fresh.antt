@@ -8,7 +8,7 @@ use lib.ListN.{length, drop}
 use Rattle.record.specs.declared.Record.{Record}
 use Rattle.table.specs.Words.{memory}
 use Rattle.table.specs.Events.{State, fresh, tablesFit}
-use Rattle.list.specs.declared.Sizes.{Sizes}
+use Rattle.words.specs.declared.Sizes.{Sizes}
 use Rattle.lent.specs.declared.Made.{Made}
 use Rattle.lent.specs.declared.Made.the-variants.{Refused, Fresh}
 

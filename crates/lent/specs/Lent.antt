@@ -5,7 +5,7 @@ use Rattle.record.specs.declared.Record.{Record}
 use Rattle.record.specs.declared.Event.{Event}
 use Rattle.table.specs.Words.{memory}
 use Rattle.table.specs.Events.{State, stateOf, Leaves, event}
-use Rattle.list.specs.declared.Sizes.{Sizes}
+use Rattle.words.specs.declared.Sizes.{Sizes}
 use Rattle.list.specs.declared.Acted.{Acted}
 use Rattle.lent.specs.declared.Said.{Said}
 

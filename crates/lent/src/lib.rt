@@ -11,10 +11,10 @@ ghost use Rattle.table.specs.Words.{freshMemory};
 ghost use Rattle.list.specs.Acting.{left, actOn};
 ghost use Rattle.lent.specs.Lent.{actedOf, leaves, actIn};
 ghost use Rattle.lent.specs.Fresh.{over, freshFits, freshTables, tablesLeft, freshList, listLeft};
-use list::Sizes;
 use record::Event;
 use record::Outcome;
 use record::Record;
+use words::Sizes;
 
 // What an event says to whoever lent the record or the row: the sizes after it, and its outcome.
 pub struct Said {

@@ -1,57 +1,26 @@
--- Row 1: the end of a search case by case, and the row as the code tests it. Rests on Turns.
+-- Rows 1, 11 and 13, which choose among more than two places: the record as the code chooses its fields is the one that follows. Rests on Turns.
 use mathlib.Core.Path.{_≡_, refl, ap, _∙_}
-use mathlib.Core.Bool.{Bool, true, false, cond, _&&_}
+use mathlib.Core.Bool.{Bool, true, false, cond, not, _&&_, _||_}
 use mathlib.Core.List.{List}
 use Prim.Native.Nat.{ℕ}
 use lib.Dec.{eqb}
 use lib.ListN.{getD}
-use borrow.Author.Tests.{eq-eqb, ne-eqb}
-use Rattle.record.specs.Record.{_▸_, _with_, to, pred≔, curr≔, succ≔, False, True}
+use Rattle.record.specs.Record.{_▸_, _with_, to, pred≔, curr≔, succ≔, Inserts, False, True, Fail}
 use Rattle.record.specs.declared.Node.{Node}
 use Rattle.record.specs.declared.Process.{Process}
 use Rattle.record.specs.declared.Record.{Record}
+use Rattle.record.specs.declared.Outcome.the-variants.{Accepted}
 use Rattle.table.specs.Words.{Memory, memory, targetOf, isMarked, inUse, below, equal}
 use Rattle.table.specs.Places.{Next, goes, usesOwn, curr, own, placeOf, row, searchEnds}
 use Rattle.table.specs.Steps.{usable, ownUsable, recordAfter}
-use Rattle.list.specs.declared.Sizes.{Sizes}
+use Rattle.words.specs.Lent.{orderOf}
+use Rattle.words.specs.declared.Order.{Order}
+use Rattle.words.specs.declared.Sizes.{Sizes}
 use Rattle.list.specs.declared.access.Read.{Read}
-use Rattle.list.specs.declared.words.Order.{Order}
+use Rattle.list.specs.declared.search.Goal.{Goal}
 use Rattle.list.specs.Acting.{left}
-use Rattle.list.specs.Parts.{StandsAt, turnOf, stepped, readOf, orderOf}
-use Rattle.list.proofs.Turns.{read-link-own}
-
-module _ (addresses : List ℕ) (r : Record) (target : Node) (x : Record) where
-  abbrev s : Record
-  s = r ▸ succ≔ target
-
-  pub finds-own : x ≡ (s ▸ 18 with True) → r .lost .recovering ≡ true → r .lost .curr .0 ≡ r .kept .node .0 →
-      x ≡ recordAfter (searchEnds addresses s)
-  unfolding searchEnds
-  finds-own e h k = e ∙ rw (h, eq-eqb (r .lost .curr .0) (r .kept .node .0) k)
-
-  pub misses-own : x ≡ (s ▸ to 14) → r .lost .recovering ≡ true → (r .lost .curr .0 ≡ r .kept .node .0 → ⊥) →
-      x ≡ recordAfter (searchEnds addresses s)
-  unfolding searchEnds
-  misses-own e h k = e ∙ rw (h, ne-eqb (r .lost .curr .0) (r .kept .node .0) k)
-
-  module _ (same : Bool) (is : same ≡ equal addresses (r .lost .curr) (r .kept .address)) (h : r .lost .recovering ≡ false) where
-    pub insert-there : x ≡ (s ▸ 18 with False) → r .kept .kind ≡ 0 → same ≡ true → x ≡ recordAfter (searchEnds addresses s)
-    unfolding searchEnds
-    insert-there e k g = e ∙ rw (h, eq-eqb (r .kept .kind) 0 k, ← is, g)
-
-    pub insert-absent : x ≡ (s ▸ to 3) → r .kept .kind ≡ 0 → same ≡ false → x ≡ recordAfter (searchEnds addresses s)
-    unfolding searchEnds
-    insert-absent e k g = e ∙ rw (h, eq-eqb (r .kept .kind) 0 k, ← is, g)
-
-    pub delete-there : x ≡ (s ▸ to 5) → (r .kept .kind ≡ 0 → ⊥) → same ≡ true → x ≡ recordAfter (searchEnds addresses s)
-    unfolding searchEnds
-    delete-there e k g = e ∙ rw (h, ne-eqb (r .kept .kind) 0 k, ← is, g)
-
-    pub delete-absent : x ≡ (s ▸ 18 with False) → (r .kept .kind ≡ 0 → ⊥) → same ≡ false → x ≡ recordAfter (searchEnds addresses s)
-    unfolding searchEnds
-    delete-absent e k g = e ∙ rw (h, ne-eqb (r .kept .kind) 0 k, ← is, g)
-
-pub ruleset ends = (finds-own, misses-own, insert-there, insert-absent, delete-there, delete-absent)
+use Rattle.list.specs.Parts.{StandsAt, turnOf, answered, stepped, readOf, goalOf}
+use Rattle.list.proofs.Turns.{read-link-own, read-link, own-record}
 
 -- the record and the use of own that follow from the tests of row 1
 module _ (used : Node → Bool) (r : Record) where
@@ -67,11 +36,60 @@ module _ (used : Node → Bool) (r : Record) where
   own-ends false true a b d = refl
   own-ends false false a b d = refl
 
-after-scans : (mark low : Bool) (a b : Record) (x : Next) →
-    cond mark a (cond low b (recordAfter x)) ≡ recordAfter (cond mark (goes a) (cond low (goes b) x))
-after-scans true low a b x = refl
-after-scans false true a b x = refl
-after-scans false false a b x = refl
+-- own as the code tests it
+own-tested : (mark low recovering fits : Bool) →
+    (((mark || low) || not recovering) || fits) ≡ cond mark true (cond low true (cond recovering fits true))
+own-tested true low recovering fits = refl
+own-tested false true recovering fits = refl
+own-tested false false true fits = refl
+own-tested false false false fits = refl
+
+-- the record that follows, as the code chooses its fields: by the mark, the order, and how the search ends
+module _ (r : Record) (target : Node) where
+  abbrev found : Record
+  found = r ▸ succ≔ target
+
+  abbrev onward : Record
+  onward = found ▸ pred≔ (r .lost .curr) ▸ curr≔ target
+
+  abbrev chosen : (mark low : Bool) → Goal → Record
+  chosen mark low ends =
+      cond (not mark && low) onward found
+      ▸ cond mark 2 (cond low 1 (ends .place)) with cond (mark || low) (r .lost .pending) (ends .answer)
+
+  scan-chooses : (mark low recovering at-own inserts same : Bool) →
+      chosen mark low (goalOf recovering at-own inserts same (r .lost .pending)) ≡
+      recordAfter (cond mark (goes (found ▸ to 2)) (cond low (goes (onward ▸ to 1))
+      (cond recovering (usesOwn (cond at-own (found ▸ 18 with True) (found ▸ to 14)))
+      (cond inserts
+      (goes (cond same (found ▸ 18 with False) (found ▸ to 3)))
+      (goes (cond same (found ▸ to 5) (found ▸ 18 with False)))))))
+  unfolding goalOf
+  scan-chooses true low recovering at-own inserts same = refl
+  scan-chooses false true recovering at-own inserts same = refl
+  scan-chooses false false true true inserts same = refl
+  scan-chooses false false true false inserts same = refl
+  scan-chooses false false false at-own true true = refl
+  scan-chooses false false false at-own true false = refl
+  scan-chooses false false false at-own false true = refl
+  scan-chooses false false false at-own false false = refl
+
+-- the same of row 11, by the order, and of row 13, by what the record holds
+walk-chooses : (r : Record) (target : Node) (low same : Bool) →
+    (r ▸ curr≔ target ▸ cond low 11 (cond same 12 19) with cond (low || same) (r .lost .pending) 1) ≡
+    cond low (r ▸ curr≔ target ▸ to 11) (cond same (r ▸ curr≔ target ▸ to 12) (r ▸ curr≔ target ▸ 19 with False))
+walk-chooses r target true same = refl
+walk-chooses r target false true = refl
+walk-chooses r target false false = refl
+
+resumes : (r : Record) (answered inserts looks : Bool) →
+    (r ▸ cond answered 19 (cond inserts 0 (cond looks 15 19)) with
+    cond answered (r .kept .result) (cond (inserts || looks) (r .lost .pending) 3)) ≡
+    cond answered (r ▸ 19 with r .kept .result) (cond inserts (r ▸ to 0) (cond looks (r ▸ to 15) (r ▸ 19 with Fail)))
+resumes r true inserts looks = refl
+resumes r false true looks = refl
+resumes r false false true = refl
+resumes r false false false = refl
 
 module _ (addresses links deleters : List ℕ) (sizes : Sizes) (p : Process) (r : Record) where
   abbrev m : Memory
@@ -83,44 +101,59 @@ module _ (addresses links deleters : List ℕ) (sizes : Sizes) (p : Process) (r 
   abbrev low : Bool
   low = below addresses (r .lost .curr) (r .kept .address)
 
-  abbrev found : Record
-  found = r ▸ succ≔ (targetOf word)
-
-  abbrev onward : Record
-  onward = found ▸ pred≔ (r .lost .curr) ▸ curr≔ (targetOf word) ▸ to 1
-
-  own-is : cond (r .lost .recovering) (usable (inUse m) r own) true ≡ ownUsable (inUse m) r (searchEnds addresses found)
+  own-is : (found : Record) → found ≡ (r ▸ succ≔ (targetOf word)) →
+      cond (r .lost .recovering) (usable (inUse m) r own) true ≡ ownUsable (inUse m) r (searchEnds addresses found)
   unfolding searchEnds
-  own-is = own-ends (inUse m) r (r .lost .recovering) (eqb (r .kept .kind) 0) _ _ _
+  own-is found is = rw is (own-ends (inUse m) r (r .lost .recovering) (eqb (r .kept .kind) Inserts) _ _ _)
 
-  pub scan : StandsAt 1 r → (ends : Record) → ends ≡ recordAfter (searchEnds addresses found) →
-      left addresses links deleters
-      (turnOf
-      (inUse m (r .lost .curr) && inUse m (targetOf word)
-      && cond (isMarked word) true (cond low true (cond (r .lost .recovering) (usable (inUse m) r own) true)))
-      sizes r (cond (isMarked word) (found ▸ to 2) (cond low onward ends)))
-      ≡ stepped addresses links deleters sizes p r
-  unfolding row placeOf
-  scan at ends e =
-      rw (e, own-is, own-scans (inUse m) r (isMarked word) low (found ▸ to 2) onward (searchEnds addresses found))
-      (rw (after-scans (isMarked word) low (found ▸ to 2) onward (searchEnds addresses found))
-      (read-link-own addresses links deleters sizes p r 1 at curr _ refl))
-
-  -- the same, of what the row's calls hand back
-  pub scanned : StandsAt 1 r → (usable-curr : Bool) (read : Read) (order : Order) (ends : Record) →
+  -- row 1, of what its calls hand back
+  pub scanned : StandsAt 1 r → (usable-curr : Bool) (read : Read) (order : Order) (ends : Goal) →
       usable-curr ≡ inUse m (r .lost .curr) →
       read ≡ readOf sizes usable-curr word →
       order ≡ orderOf addresses (r .lost .curr) (r .kept .address) →
-      (order .equal ≡ equal addresses (r .lost .curr) (r .kept .address) →
-      ends ≡ recordAfter (searchEnds addresses (r ▸ succ≔ (read .target)))) →
+      ends ≡ goalOf (r .lost .recovering) (eqb (r .lost .curr .0) (r .kept .node .0)) (eqb (r .kept .kind) 0) (order .equal) (r .lost .pending) →
       left addresses links deleters
       (turnOf
-      (read .accepted && cond (read .mark) true (cond (order .below) true (cond (r .lost .recovering) (usable (inUse m) r own) true)))
-      sizes r
-      (cond (read .mark) (r ▸ succ≔ (read .target) ▸ to 2)
-      (cond (order .below) (r ▸ succ≔ (read .target) ▸ pred≔ (r .lost .curr) ▸ curr≔ (read .target) ▸ to 1) ends)))
+      (read .accepted && (((read .mark || order .below) || not (r .lost .recovering)) || usable (inUse m) r own))
+      sizes r (chosen r (read .target) (read .mark) (order .below) ends))
       ≡ stepped addresses links deleters sizes p r
-  unfolding readOf orderOf
+  unfolding row placeOf searchEnds readOf orderOf
   scanned at usable-curr read order ends u k o e =
-      rw (k, o, u)
-      (scan at ends (e (ap (λ (x : Order). x .equal) o) ∙ ap (λ (x : Read). recordAfter (searchEnds addresses (r ▸ succ≔ (x .target)))) k))
+      rw (e, k, o, u)
+      (read-link-own addresses links deleters sizes p r 1 at curr _ _ _ refl
+      (ap (λ x. inUse m (r .lost .curr) && inUse m (targetOf word) && x)
+      (own-tested (isMarked word) low (r .lost .recovering) (usable (inUse m) r own)
+      ∙ rw (own-is _ refl) (own-scans (inUse m) r (isMarked word) low _ _ _)))
+      (scan-chooses r (targetOf word) (isMarked word) low (r .lost .recovering) _ _ _))
+
+  -- row 11
+  pub walks : StandsAt 11 r →
+      (let target = targetOf word in
+      let under = below addresses target (r .kept .address) in
+      let same = equal addresses target (r .kept .address) in
+      left addresses links deleters
+      (turnOf (inUse m (r .lost .curr) && inUse m target) sizes r
+      (r ▸ curr≔ target ▸ cond under 11 (cond same 12 19) with cond (under || same) (r .lost .pending) 1)) ≡
+      stepped addresses links deleters sizes p r)
+  unfolding row placeOf
+  walks at = read-link addresses links deleters sizes p r 11 at curr _
+      (λ r target mark.
+      let under = below addresses target (r .kept .address) in
+      let same = equal addresses target (r .kept .address) in
+      r ▸ curr≔ target ▸ cond under 11 (cond same 12 19) with cond (under || same) (r .lost .pending) 1) refl
+      (λ target mark. walk-chooses r target (below addresses target (r .kept .address)) (equal addresses target (r .kept .address)))
+
+  -- row 13
+  pub resumed : StandsAt 13 r →
+      (let known = not (eqb (r .kept .result) 0) in
+      let inserts = eqb (r .kept .kind) 0 in
+      let looks = eqb (r .kept .kind) 1 && not (eqb (r .kept .node .0) 0) in
+      left addresses links deleters
+      (answered sizes
+      (r ▸ cond known 19 (cond inserts 0 (cond looks 15 19)) with
+      cond known (r .kept .result) (cond (inserts || looks) (r .lost .pending) 3)) Accepted) ≡
+      stepped addresses links deleters sizes p r)
+  unfolding row placeOf
+  resumed at =
+      rw (resumes r (not (eqb (r .kept .result) 0)) (eqb (r .kept .kind) 0) (eqb (r .kept .kind) 1 && not (eqb (r .kept .node .0) 0)))
+      (own-record addresses links deleters sizes p r 13 at _ refl)

@@ -1,6 +1,6 @@
 -- An event judged: refusals 7, 1, 2 in this order, then what it does; and what follows of tables that fit. Rests on Events.
-use mathlib.Core.Path.{_≡_, sym, _∙_}
-use mathlib.Core.Bool.{Bool, true, false, _&&_}
+use mathlib.Core.Path.{_≡_, refl, _∙_}
+use mathlib.Core.Bool.{Bool, true, false, cond, _&&_}
 use mathlib.Core.List.{List}
 use Prim.Native.Nat.{ℕ, _+_, _<_}
 use native.Mathlib.Omega.{arith}
@@ -16,44 +16,66 @@ use Rattle.record.specs.declared.Event.{Event}
 use Rattle.record.specs.declared.Event.the-variants.{Insert, Delete, Find, Step, Stop, Restart}
 use Rattle.record.specs.declared.Outcome.the-variants.{Refused, Accepted}
 use Rattle.table.specs.Words.{Memory, memory, givenOut, linkWord}
-use Rattle.table.specs.Events.{act, does, tablesFit, sizesFit, statusNeeded}
-use Rattle.list.specs.declared.Sizes.{Sizes}
+use Rattle.table.specs.Events.{acted, refused, act, does, tablesFit, sizesFit, statusNeeded}
+use Rattle.table.specs.Events as table
+use Rattle.words.specs.declared.Sizes.{Sizes}
 use Rattle.list.specs.declared.Acted.{Acted}
 use Rattle.list.specs.Acting.{Left, left, leftOf, actOn, counted}
-use Rattle.list.specs.Parts.{answered, stepped, Fits, Room}
+use Rattle.list.specs.Parts.{answered, stepped, Within, refusalIn}
 use Rattle.list.proofs.Tested.{and-left, and-right}
+
+-- the first refusal of the three tests
+pub in-order : (fits there ready : Bool) →
+    cond (eqb (cond fits 0 7) 0) (cond (eqb (cond there 0 1) 0) (cond ready 0 2) (cond there 0 1)) (cond fits 0 7) ≡ refusalIn fits there ready
+unfolding refusalIn
+in-order true true ready = refl
+in-order true false ready = refl
+in-order false there ready = refl
+
+-- where no test refuses, each holds
+pub none-refuses : (fits there ready : Bool) (refusal : ℕ) → refusal ≡ refusalIn fits there ready → refusal ≡ 0 →
+    (fits ≡ true) × (there ≡ true) × (ready ≡ true)
+unfolding refusalIn
+none-refuses true true true refusal is e = (refl, refl, refl)
+none-refuses true true false refusal is e = absurd (omega (arith, is, e))
+none-refuses true false ready refusal is e = absurd (omega (arith, is, e))
+none-refuses false there ready refusal is e = absurd (omega (arith, is, e))
+
+-- where one refuses, it is the first
+first-refuses : (fits there ready : Bool) (refusal : ℕ) (m : Memory) (r : Record) (d : table.Acted) →
+    refusal ≡ refusalIn fits there ready → (refusal ≡ 0 → ⊥) →
+    acted m r (Refused refusal) ≡ cond fits (cond there (cond ready d (refused m r 2)) (refused m r 1)) (refused m r 7)
+unfolding refusalIn
+first-refuses true true true refusal m r d is some = absurd (some is)
+first-refuses true true false refusal m r d is some = rw is
+first-refuses true false ready refusal m r d is some = rw is
+first-refuses false there ready refusal m r d is some = rw is
 
 module _ (addresses links deleters : List ℕ) (sizes : Sizes) (r : Record) (e : Event) where
   abbrev m : Memory
   m = memory addresses links deleters (sizes .count)
 
-  module _ (fits there ready : Bool)
-      (f : fits ≡ tablesFit (sizes .nodes) (sizes .processes) m)
-      (t : there ≡ ltb (processOf e .0) (sizes .processes))
-      (s : ready ≡ eqb (r .kept .status) (statusNeeded e)) where
-    pub refused-7 : (a : Acted) → a ≡ answered sizes r (Refused 7) → fits ≡ false →
-        left addresses links deleters a ≡ actOn addresses links deleters sizes r e
-    unfolding actOn act
-    refused-7 a is x = rw (is, ← f, x)
+  -- the three tests of an event
+  abbrev Tested : (refusal : ℕ) → Type 0
+  Tested refusal =
+      refusal ≡ refusalIn (tablesFit (sizes .nodes) (sizes .processes) m) (ltb (processOf e .0) (sizes .processes))
+      (eqb (r .kept .status) (statusNeeded e))
 
-    pub refused-1 : (a : Acted) → a ≡ answered sizes r (Refused 1) → fits ≡ true → there ≡ false →
-        left addresses links deleters a ≡ actOn addresses links deleters sizes r e
-    unfolding actOn act
-    refused-1 a is x y = rw (is, ← f, x, ← t, y)
+  pub refuses : (refusal : ℕ) → Tested refusal → (refusal ≡ 0 → ⊥) → (a : Acted) → a ≡ answered sizes r (Refused refusal) →
+      left addresses links deleters a ≡ actOn addresses links deleters sizes r e
+  unfolding actOn act
+  refuses refusal is some a made = rw (made, ← first-refuses _ _ _ refusal m r (does (sizes .nodes) m r e) is some)
 
-    pub refused-2 : (a : Acted) → a ≡ answered sizes r (Refused 2) → fits ≡ true → there ≡ true → ready ≡ false →
-        left addresses links deleters a ≡ actOn addresses links deleters sizes r e
-    unfolding actOn act
-    refused-2 a is x y z = rw (is, ← f, x, ← t, y, ← s, z)
-
-    pub acts : (x : Left) → x ≡ leftOf sizes (does (sizes .nodes) m r e) → fits ≡ true → there ≡ true → ready ≡ true →
-        x ≡ actOn addresses links deleters sizes r e
-    unfolding actOn act
-    acts x is i j k = is ∙ rw (← f, i, ← t, j, ← s, k)
+  pub acts : (refusal : ℕ) → Tested refusal → refusal ≡ 0 → (x : Left) → x ≡ leftOf sizes (does (sizes .nodes) m r e) →
+      x ≡ actOn addresses links deleters sizes r e
+  unfolding actOn act
+  acts refusal is none x made =
+      let tests = none-refuses _ _ _ refusal is none in
+      made ∙ rw (tests .0, tests .1, tests .2)
 
 -- what tables that fit hold
-module _ (addresses links deleters : List ℕ) (sizes : Sizes) (fits : Bool)
-    (f : fits ≡ tablesFit (sizes .nodes) (sizes .processes) (memory addresses links deleters (sizes .count))) (x : fits ≡ true) where
+module _ (addresses links deleters : List ℕ) (sizes : Sizes)
+    (fits : tablesFit (sizes .nodes) (sizes .processes) (memory addresses links deleters (sizes .count)) ≡ true) where
   abbrev nodes : ℕ
   nodes = sizes .nodes
 
@@ -68,7 +90,7 @@ module _ (addresses links deleters : List ℕ) (sizes : Sizes) (fits : Bool)
 
   all-fit : (long && leb 2 (sizes .count) && leb (sizes .count) nodes) ≡ true
   unfolding tablesFit sizesFit
-  all-fit = sym f ∙ x
+  all-fit = fits
 
   all-long : long ≡ true
   all-long = and-left long (leb 2 (sizes .count)) (and-left (long && leb 2 (sizes .count)) (leb (sizes .count) nodes) all-fit)
@@ -85,21 +107,18 @@ module _ (addresses links deleters : List ℕ) (sizes : Sizes) (fits : Bool)
   few-nodes : (leb 2 nodes && leb nodes 4096) ≡ true
   few-nodes = and-left (leb 2 nodes && leb nodes 4096) (leb 1 (sizes .processes)) (and-left limits (leb (sizes .processes) 64) sizes-too)
 
-  pub tables-fit : Fits addresses links deleters sizes
-  tables-fit =
+  pub within : Within sizes
+  within =
       record {
-        addresses-long = leb-true nodes (length addresses) (and-right (limits && leb (sizes .processes) 64) (leb nodes (length addresses)) addresses-too);
-        links-long = leb-true nodes (length links) (and-right two (leb nodes (length links)) links-too);
-        deleters-long = leb-true nodes (length deleters) (and-right (two && leb nodes (length links)) (leb nodes (length deleters)) all-long);
         few = leb-true nodes 4096 (and-right (leb 2 nodes) (leb nodes 4096) few-nodes);
         given = leb-true (sizes .count) nodes (and-right (long && leb 2 (sizes .count)) (leb (sizes .count) nodes) all-fit);
       }
 
-  pub few-processes : (p : Process) (there : Bool) → there ≡ ltb (p .0) (sizes .processes) → there ≡ true → p .0 < 64
-  few-processes p there t y =
+  pub few-processes : (p : Process) → ltb (p .0) (sizes .processes) ≡ true → p .0 < 64
+  few-processes p there =
       omega (
         arith,
-        ltb-true (p .0) (sizes .processes) (sym t ∙ y),
+        ltb-true (p .0) (sizes .processes) there,
         leb-true (sizes .processes) 64 (and-right limits (leb (sizes .processes) 64) sizes-too),
       )
 
@@ -139,16 +158,9 @@ module _ (addresses links deleters : List ℕ) (sizes : Sizes) (r : Record) (e :
 
 pub ruleset kinds = (inserts, deletes, finds, steps, stops, restarts)
 
--- the process of a step, and its tables
+-- the process of a step
 pub stepping : (e : Event) (p : Process) → e ≡ Step p → processOf e .0 < 64 → p .0 < 64
 stepping e p is h = rw is at h
-
-module _ (addresses links deleters : List ℕ) (sizes : Sizes) (fit : Fits addresses links deleters sizes) where
-  pub room-of-links : Room links sizes
-  room-of-links = record { long = omega (arith, fit .links-long, fit .given); small = omega (arith, fit .few, fit .given) }
-
-  pub room-of-deleters : Room deleters sizes
-  room-of-deleters = record { long = omega (arith, fit .deleters-long, fit .given); small = omega (arith, fit .few, fit .given) }
 
 -- insert: the table is full, or the next node is given out
 module _ (addresses links deleters : List ℕ) (sizes : Sizes) (r : Record) (p : Process) (a : Address) (b : Acted) where
@@ -157,9 +169,11 @@ module _ (addresses links deleters : List ℕ) (sizes : Sizes) (r : Record) (p :
   unfolding does
   full h is = rw (is, eq-eqb (sizes .count) (sizes .nodes) h)
 
-  pub gives-out : (q : Record) (link : ℕ) → link ≡ linkWord tailNode false → (sizes .count ≡ sizes .nodes → ⊥) →
+  pub gives-out : (q : Record) (link : ℕ) (addresses′ links′ deleters′ : List ℕ) →
+      addresses′ ≡ set addresses (sizes .count) (a .0) → links′ ≡ set links (sizes .count) link → deleters′ ≡ set deleters (sizes .count) 0 →
+      link ≡ linkWord tailNode false → (sizes .count ≡ sizes .nodes → ⊥) →
       b ≡ answered (counted sizes (sizes .count + 1)) q Accepted → q ≡ requested 0 Inserts a (node (sizes .count)) →
-      left (set addresses (sizes .count) (a .0)) (set links (sizes .count) link) (set deleters (sizes .count) 0) b ≡
+      left addresses′ links′ deleters′ b ≡
       leftOf sizes (does (sizes .nodes) (memory addresses links deleters (sizes .count)) r (Insert p a))
   unfolding does givenOut
-  gives-out q link l h is k = rw (is, k, l, ne-eqb (sizes .count) (sizes .nodes) h)
+  gives-out q link addresses′ links′ deleters′ i j k l h is e = rw (i, j, k, is, e, l, ne-eqb (sizes .count) (sizes .nodes) h)

@@ -1,5 +1,4 @@
 pub mod Tested
-pub mod Orders
 pub mod Turns
 pub mod Ends
 pub mod Places

@@ -10,7 +10,7 @@ use Rattle.record.specs.declared.Record.{Record}
 use Rattle.record.specs.declared.Outcome.the-variants.{Refused}
 use Rattle.table.specs.Steps.{inRange, turnIn}
 use Rattle.table.specs.Events.{stepOf}
-use Rattle.list.specs.declared.Sizes.{Sizes}
+use Rattle.words.specs.declared.Sizes.{Sizes}
 use Rattle.list.specs.declared.Acted.{Acted}
 use Rattle.list.specs.Acting.{left}
 use Rattle.list.specs.Parts.{answered, stepped}

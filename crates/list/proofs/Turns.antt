@@ -1,5 +1,5 @@
 -- What a step leaves, by the access of its row: once for each sort of access, over any row that makes it. Rests on Steps and Parts.
-use mathlib.Core.Path.{_≡_, refl, ap, _∙_}
+use mathlib.Core.Path.{_≡_, refl, sym, ap, _∙_}
 use mathlib.Core.Bool.{Bool, true, false, cond, _&&_}
 use mathlib.Core.List.{List}
 use Prim.Native.Nat.{ℕ}
@@ -15,10 +15,10 @@ use Rattle.table.specs.Places.{Field, Link, Row, Next, goes, nodeOf, linkOf, pl
 use Rattle.table.specs.Places.{readLink, writeLink, swapLink, readDeleter, swapDeleter, writeNode, ownRecord, handOut}
 use Rattle.table.specs.Steps.{usable, inRange, turnIn, wordMet, ownUsable, recordAfter, fieldOf}
 use Rattle.table.specs.Events.{stepOf, acted, refused}
-use Rattle.list.specs.declared.Sizes.{Sizes}
-use Rattle.list.specs.declared.access.Exchange.{Exchange}
+use Rattle.words.specs.Lent.{swapped, swapOf}
+use Rattle.words.specs.declared.Sizes.{Sizes}
 use Rattle.list.specs.Acting.{left, leftOf}
-use Rattle.list.specs.Parts.{StandsAt, turnOf, answered, stepped, exchanged, exchangeOf, swapOf, swapWhere}
+use Rattle.list.specs.Parts.{StandsAt, turnOf, answered, stepped, swapWhere}
 
 -- the tests of a row that reads a link, without the trues
 fits-read : (ranged a b own : Bool) → ranged ≡ true → ranged && ((a && true) && (b && true) && own) ≡ (a && b && own)
@@ -47,9 +47,10 @@ own-idle true true = refl
 own-idle true false = refl
 own-idle false b = refl
 
-alike : (b : Bool) (r : Record) → r ≡ cond b r r
-alike true r = refl
-alike false r = refl
+-- what holds of both answers of a test
+pub bools : (P : Bool → Type 0) → P true → P false → (b : Bool) → P b
+bools P t f true = t
+bools P t f false = f
 
 module _ (addresses links deleters : List ℕ) (sizes : Sizes) (p : Process) (r : Record) where
   abbrev m : Memory
@@ -69,43 +70,48 @@ module _ (addresses links deleters : List ℕ) (sizes : Sizes) (p : Process) (r 
   quiet true after = refl
   quiet false after = refl
 
-  -- a read link, whose row may use own at the end
-  pub read-link-own : (n : ℕ) (s : StandsAt n r) (f : Field) (next : Node → Bool → Next) →
+  -- a read link, whose row may use own at the end; what the row's code tests and makes of the record is known by equations
+  pub read-link-own : (n : ℕ) (s : StandsAt n r) (f : Field) (next : Node → Bool → Next) (fits : Bool) (after : Record) →
       row addresses (placeOf n) r ≡ readLink f next →
       (let word = getD links (nodeOf r f .0) 0 in
-      left addresses links deleters
-      (turnOf (usable (inUse m) r f && inUse m (targetOf word) && ownUsable (inUse m) r (next (targetOf word) (isMarked word))) sizes r
-      (recordAfter (next (targetOf word) (isMarked word)))) ≡ stepped addresses links deleters sizes p r)
+      let x = next (targetOf word) (isMarked word) in
+      fits ≡ (usable (inUse m) r f && inUse m (targetOf word) && ownUsable (inUse m) r x) →
+      after ≡ recordAfter x →
+      left addresses links deleters (turnOf fits sizes r after) ≡ stepped addresses links deleters sizes p r)
   unfolding stepped stepOf turnIn wordMet linkAt written
-  read-link-own n s f next e =
+  read-link-own n s f next fits after e is made =
       let word : ℕ = getD links (nodeOf r f .0) 0 in
+      let x : Next = next (targetOf word) (isMarked word) in
       rw (
+        is,
+        made,
         row-at n s,
         e,
-        fits-read (inRange r) (usable (inUse m) r f) (inUse m (targetOf word)) (ownUsable (inUse m) r (next (targetOf word) (isMarked word))) (s .ranged),
+        fits-read (inRange r) (usable (inUse m) r f) (inUse m (targetOf word)) (ownUsable (inUse m) r x) (s .ranged),
       )
-      (quiet (usable (inUse m) r f && inUse m (targetOf word) && ownUsable (inUse m) r (next (targetOf word) (isMarked word)))
-      (recordAfter (next (targetOf word) (isMarked word))))
+      (quiet (usable (inUse m) r f && inUse m (targetOf word) && ownUsable (inUse m) r x) (recordAfter x))
 
-  pub read-link : (n : ℕ) (s : StandsAt n r) (f : Field) (next : Node → Bool → Record) →
+  pub read-link : (n : ℕ) (s : StandsAt n r) (f : Field) (next : Node → Bool → Record) (after : Record → Node → Bool → Record) →
       row addresses (placeOf n) r ≡ readLink f (λ target mark. goes (next target mark)) →
+      ((target : Node) (mark : Bool) → after r target mark ≡ next target mark) →
       (let word = getD links (nodeOf r f .0) 0 in
       left addresses links deleters
-      (turnOf (usable (inUse m) r f && inUse m (targetOf word)) sizes r (next (targetOf word) (isMarked word))) ≡
+      (turnOf (usable (inUse m) r f && inUse m (targetOf word)) sizes r (after r (targetOf word) (isMarked word))) ≡
       stepped addresses links deleters sizes p r)
-  read-link n s f next e =
+  read-link n s f next after e made =
       let word : ℕ = getD links (nodeOf r f .0) 0 in
-      rw (← own-idle (usable (inUse m) r f) (inUse m (targetOf word)))
-      (read-link-own n s f (λ target mark. goes (next target mark)) e)
+      read-link-own n s f (λ target mark. goes (next target mark)) _ _ e
+      (sym (own-idle (usable (inUse m) r f) (inUse m (targetOf word)))) (made (targetOf word) (isMarked word))
 
-  pub read-deleter : (n : ℕ) (s : StandsAt n r) (f : Field) (next : Bool → Record) →
+  pub read-deleter : (n : ℕ) (s : StandsAt n r) (f : Field) (next : Bool → Record) (after : Record → Bool → Record) →
       row addresses (placeOf n) r ≡ readDeleter f next →
-      left addresses links deleters (turnOf (usable (inUse m) r f) sizes r (next (eqb (getD deleters (nodeOf r f .0) 0) (deleterWord p)))) ≡
+      ((mine : Bool) → after r mine ≡ next mine) →
+      left addresses links deleters (turnOf (usable (inUse m) r f) sizes r (after r (eqb (getD deleters (nodeOf r f .0) 0) (deleterWord p)))) ≡
       stepped addresses links deleters sizes p r
   unfolding stepped stepOf turnIn wordMet deleterAt written
-  read-deleter n s f next e =
-      rw (row-at n s, e, fits-one (inRange r) (usable (inUse m) r f) (s .ranged))
-      (quiet (usable (inUse m) r f) (next (eqb (getD deleters (nodeOf r f .0) 0) (deleterWord p))))
+  read-deleter n s f next after e made =
+      let mine : Bool = eqb (getD deleters (nodeOf r f .0) 0) (deleterWord p) in
+      rw (made mine, row-at n s, e, fits-one (inRange r) (usable (inUse m) r f) (s .ranged)) (quiet (usable (inUse m) r f) (next mine))
 
   pub write-node : (n : ℕ) (s : StandsAt n r) (f : Field) (after : Record) →
       row addresses (placeOf n) r ≡ writeNode f after →
@@ -145,21 +151,20 @@ module _ (addresses links deleters : List ℕ) (sizes : Sizes) (p : Process) (r 
       (writes (usable (inUse m) r f && usable (inUse m) r (fieldOf new)) (nodeOf r f) (linkOf r new) after)
 
   -- a swapped link
-  link-swaps : (accepted same : Bool) (n : Node) (found new : ℕ) (done lost : Record) →
-      (let x = cond accepted (cond same (exchanged (set links (n .0) new) (exchangeOf found true)) (exchanged links (exchangeOf found false)))
-      (exchanged links (exchangeOf 0 false)) in
-      left addresses (x .words) deleters (turnOf accepted sizes r (cond (x .exchange .wrote) done lost)) ≡
+  link-swaps : (accepted same : Bool) (n : Node) (new : ℕ) (done lost : Record) →
+      (let x = cond accepted (cond same (swapped (set links (n .0) new) true) (swapped links false)) (swapped links false) in
+      left addresses (x .words) deleters (turnOf accepted sizes r (cond (x .wrote) done lost)) ≡
       leftOf sizes (cond accepted (acted (written (cond same (linkIs n new) nothing) m) (cond same done lost) Accepted) (refused m r 8)))
   unfolding turnOf written
-  link-swaps true true n found new done lost = refl
-  link-swaps true false n found new done lost = refl
-  link-swaps false same n found new done lost = refl
+  link-swaps true true n new done lost = refl
+  link-swaps true false n new done lost = refl
+  link-swaps false same n new done lost = refl
 
-  pub swap-link : (n : ℕ) (s : StandsAt n r) (f : Field) (old new : Link) (done lost : Record) →
+  swap-link : (n : ℕ) (s : StandsAt n r) (f : Field) (old new : Link) (done lost : Record) →
       row addresses (placeOf n) r ≡ swapLink f old new done lost →
       (let accepted = usable (inUse m) r f && usable (inUse m) r (fieldOf old) && usable (inUse m) r (fieldOf new) in
       let x = swapWhere accepted links (nodeOf r f) (linkOf r old) (linkOf r new) in
-      left addresses (x .words) deleters (turnOf accepted sizes r (cond (x .exchange .wrote) done lost)) ≡
+      left addresses (x .words) deleters (turnOf accepted sizes r (cond (x .wrote) done lost)) ≡
       stepped addresses links deleters sizes p r)
   unfolding stepped stepOf turnIn wordMet linkAt swapWhere swapOf
   swap-link n s f old new done lost e =
@@ -170,40 +175,30 @@ module _ (addresses links deleters : List ℕ) (sizes : Sizes) (p : Process) (r 
       )
       (link-swaps
       (usable (inUse m) r f && usable (inUse m) r (fieldOf old) && usable (inUse m) r (fieldOf new))
-      (eqb (getD links (nodeOf r f .0) 0) (linkOf r old)) (nodeOf r f) (getD links (nodeOf r f .0) 0) (linkOf r new) done lost)
+      (eqb (getD links (nodeOf r f .0) 0) (linkOf r old)) (nodeOf r f) (linkOf r new) done lost)
 
   -- the same, of a table and an answer known by an equation
-  pub swapped-link : (n : ℕ) (s : StandsAt n r) (f : Field) (old new : Link) (done lost : Record) (accepted : Bool) (after : List ℕ)
-      (x : Exchange) →
+  pub swapped-link : (n : ℕ) (s : StandsAt n r) (f : Field) (old new : Link) (done lost : Record) (after : Record → Bool → Record)
+      (accepted : Bool) (words : List ℕ) (wrote : Bool) →
       row addresses (placeOf n) r ≡ swapLink f old new done lost →
+      ((b : Bool) → after r b ≡ cond b done lost) →
       accepted ≡ (usable (inUse m) r f && usable (inUse m) r (fieldOf old) && usable (inUse m) r (fieldOf new)) →
-      exchanged after x ≡ swapWhere accepted links (nodeOf r f) (linkOf r old) (linkOf r new) →
-      left addresses after deleters (turnOf accepted sizes r (cond (x .wrote) done lost)) ≡ stepped addresses links deleters sizes p r
-  swapped-link n s f old new done lost accepted after x e h k =
-      (λ i. left addresses (k i .words) deleters (turnOf accepted sizes r (cond (k i .exchange .wrote) done lost)))
+      swapped words wrote ≡ swapWhere accepted links (nodeOf r f) (linkOf r old) (linkOf r new) →
+      left addresses words deleters (turnOf accepted sizes r (after r wrote)) ≡ stepped addresses links deleters sizes p r
+  swapped-link n s f old new done lost after accepted words wrote e made h k =
+      ap (λ (t : Record). left addresses words deleters (turnOf accepted sizes r t)) (made wrote)
+      ∙ (λ i. left addresses (k i .words) deleters (turnOf accepted sizes r (cond (k i .wrote) done lost)))
       ∙ rw h (swap-link n s f old new done lost e)
 
-  -- and of a swap whose row goes on alike, done or lost
-  pub swapped-link-alike : (n : ℕ) (s : StandsAt n r) (f : Field) (old new : Link) (next : Record) (accepted : Bool) (after : List ℕ)
-      (x : Exchange) →
-      row addresses (placeOf n) r ≡ swapLink f old new next next →
-      accepted ≡ (usable (inUse m) r f && usable (inUse m) r (fieldOf old) && usable (inUse m) r (fieldOf new)) →
-      exchanged after x ≡ swapWhere accepted links (nodeOf r f) (linkOf r old) (linkOf r new) →
-      left addresses after deleters (turnOf accepted sizes r next) ≡ stepped addresses links deleters sizes p r
-  swapped-link-alike n s f old new next accepted after x e h k =
-      ap (λ (t : Record). left addresses after deleters (turnOf accepted sizes r t)) (alike (x .wrote) next)
-      ∙ swapped-link n s f old new next next accepted after x e h k
-
   -- a swapped deleter
-  deleter-swaps : (accepted same : Bool) (n : Node) (found new : ℕ) (after : Record) →
-      (let x = cond accepted (cond same (exchanged (set deleters (n .0) new) (exchangeOf found true)) (exchanged deleters (exchangeOf found false)))
-      (exchanged deleters (exchangeOf 0 false)) in
+  deleter-swaps : (accepted same : Bool) (n : Node) (new : ℕ) (after : Record) →
+      (let x = cond accepted (cond same (swapped (set deleters (n .0) new) true) (swapped deleters false)) (swapped deleters false) in
       left addresses links (x .words) (turnOf accepted sizes r after) ≡
       leftOf sizes (cond accepted (acted (written (cond same (deleterIs n new) nothing) m) after Accepted) (refused m r 8)))
   unfolding turnOf written
-  deleter-swaps true true n found new after = refl
-  deleter-swaps true false n found new after = refl
-  deleter-swaps false same n found new after = refl
+  deleter-swaps true true n new after = refl
+  deleter-swaps true false n new after = refl
+  deleter-swaps false same n new after = refl
 
   swap-deleter : (n : ℕ) (s : StandsAt n r) (f : Field) (after : Record) →
       row addresses (placeOf n) r ≡ swapDeleter f after →
@@ -212,13 +207,12 @@ module _ (addresses links deleters : List ℕ) (sizes : Sizes) (p : Process) (r 
   unfolding stepped stepOf turnIn wordMet deleterAt swapWhere swapOf
   swap-deleter n s f after e =
       rw (row-at n s, e, fits-one (inRange r) (usable (inUse m) r f) (s .ranged))
-      (deleter-swaps (usable (inUse m) r f) (eqb (getD deleters (nodeOf r f .0) 0) noDeleter) (nodeOf r f)
-      (getD deleters (nodeOf r f .0) 0) (deleterWord p) after)
+      (deleter-swaps (usable (inUse m) r f) (eqb (getD deleters (nodeOf r f .0) 0) noDeleter) (nodeOf r f) (deleterWord p) after)
 
-  pub swapped-deleter : (n : ℕ) (s : StandsAt n r) (f : Field) (next : Record) (accepted : Bool) (after : List ℕ) (x : Exchange) →
+  pub swapped-deleter : (n : ℕ) (s : StandsAt n r) (f : Field) (next : Record) (accepted : Bool) (words : List ℕ) (wrote : Bool) →
       row addresses (placeOf n) r ≡ swapDeleter f next →
       accepted ≡ usable (inUse m) r f →
-      exchanged after x ≡ swapWhere accepted deleters (nodeOf r f) noDeleter (deleterWord p) →
-      left addresses links after (turnOf accepted sizes r next) ≡ stepped addresses links deleters sizes p r
-  swapped-deleter n s f next accepted after x e h k =
+      swapped words wrote ≡ swapWhere accepted deleters (nodeOf r f) noDeleter (deleterWord p) →
+      left addresses links words (turnOf accepted sizes r next) ≡ stepped addresses links deleters sizes p r
+  swapped-deleter n s f next accepted words wrote e h k =
       (λ i. left addresses links (k i .words) (turnOf accepted sizes r next)) ∙ rw h (swap-deleter n s f next e)

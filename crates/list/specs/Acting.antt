@@ -6,7 +6,7 @@ use Rattle.record.specs.declared.Event.{Event}
 use Rattle.table.specs.Words.{Memory, memory}
 use Rattle.table.specs.Events.{act}
 use Rattle.table.specs.Events as table
-use Rattle.list.specs.declared.Sizes.{Sizes}
+use Rattle.words.specs.declared.Sizes.{Sizes}
 use Rattle.list.specs.declared.Acted.{Acted}
 
 -- the lent tables after an event, and its answer

@@ -4,66 +4,42 @@ use mathlib.Core.Path.{_≡_}
 use mathlib.Core.Bool.{Bool, true, false, cond, _&&_}
 use mathlib.Core.List.{List}
 use Prim.Native.Nat.{ℕ, _<_, _≤_}
-use lib.Dec.{ltb, eqb}
-use lib.ListN.{getD, set, length}
+use Rattle.record.specs.Record.{False, True}
 use Rattle.record.specs.declared.Node.{Node}
-use Rattle.record.specs.declared.Address.{Address}
 use Rattle.record.specs.declared.Process.{Process}
 use Rattle.record.specs.declared.Record.{Record}
 use Rattle.record.specs.declared.Outcome.{Outcome}
 use Rattle.record.specs.declared.Outcome.the-variants.{Refused, Accepted}
-use Rattle.table.specs.Words.{memory, targetOf, isMarked, below, equal}
+use Rattle.table.specs.Words.{memory, targetOf, isMarked}
 use Rattle.table.specs.Steps.{inRange}
 use Rattle.table.specs.Events.{stepOf}
-use Rattle.list.specs.declared.Sizes.{Sizes}
+use Rattle.words.specs.Lent.{usedBelow, Swapped, swapped, swapOf}
+use Rattle.words.specs.declared.Sizes.{Sizes}
 use Rattle.list.specs.declared.Acted.{Acted}
-use Rattle.list.specs.declared.words.Order.{Order}
-use Rattle.list.specs.declared.access.Exchange.{Exchange}
 use Rattle.list.specs.declared.access.Read.{Read}
+use Rattle.list.specs.declared.search.Goal.{Goal}
 use Rattle.list.specs.Acting.{Left, leftOf}
-
--- how a node stands to an address
-unfoldable pub orderOf : List ℕ → Node → Address → Order
-orderOf addresses n a = record { below = below addresses n a; equal = equal addresses n a }
 
 -- ---- accesses
 
 -- what a row learns by reading a link word: whether it goes on (its node was usable, the target is in use), target and mark
 unfoldable pub readOf : Sizes → (usable : Bool) (word : ℕ) → Read
 readOf sizes usable word =
-    record { accepted = usable && ltb (targetOf word .0) (sizes .count); target = targetOf word; mark = isMarked word }
-
--- the table after a swap, and what the swap says
-pub record Exchanged : Type 0 where
-  pub words : List ℕ
-  pub exchange : Exchange
-
-abbrev pub exchanged : List ℕ → Exchange → Exchanged
-exchanged words exchange = record { words = words; exchange = exchange }
-
-abbrev pub exchangeOf : ℕ → Bool → Exchange
-exchangeOf found wrote = record { found = found; wrote = wrote }
-
--- "A swap compares the whole link or deleter word and writes only if equal."
-unfoldable pub swapOf : List ℕ → Node → (expected new : ℕ) → Exchanged
-swapOf words n expected new =
-    let found = getD words (n .0) 0 in
-    cond (eqb found expected) (exchanged (set words (n .0) new) (exchangeOf found true)) (exchanged words (exchangeOf found false))
+    record { accepted = usable && usedBelow (sizes .count) (targetOf word); target = targetOf word; mark = isMarked word }
 
 -- a swap, made only where the row is accepted
-unfoldable pub swapWhere : (accepted : Bool) → List ℕ → Node → (expected new : ℕ) → Exchanged
-swapWhere accepted words n expected new = cond accepted (swapOf words n expected new) (exchanged words (exchangeOf 0 false))
+unfoldable pub swapWhere : (accepted : Bool) → List ℕ → Node → (expected new : ℕ) → Swapped
+swapWhere accepted words n expected new = cond accepted (swapOf words n expected new) (swapped words false)
 
--- what a lent table must hold for the nodes in use
-pub record Room (words : List ℕ) (sizes : Sizes) : Type 0 where
-  pub long : sizes .count ≤ length words
-  pub small : sizes .count ≤ 4096
-
--- where a row is accepted, the node that it writes is inside the table, and the nodes of its words are small enough for link words
-pub record Reach (accepted : Bool) (words : List ℕ) (n from to : Node) : Type 0 where
-  pub inside : accepted ≡ true → n .0 < length words
+-- where a row is accepted, the nodes of its words are small enough for link words
+pub record Small (accepted : Bool) (from to : Node) : Type 0 where
   pub from-small : accepted ≡ true → from .0 < 4096
   pub to-small : accepted ≡ true → to .0 < 4096
+
+-- the sizes and the count of an event that is not refused for them
+pub record Within (sizes : Sizes) : Type 0 where
+  pub few : sizes .nodes ≤ 4096
+  pub given : sizes .count ≤ sizes .nodes
 
 -- ---- rows
 
@@ -79,13 +55,20 @@ answered sizes r outcome = record { advanced = r; sizes = sizes; outcome = outco
 unfoldable pub turnOf : Bool → Sizes → Record → Record → Acted
 turnOf accepted sizes r after = cond accepted (answered sizes after Accepted) (answered sizes r (Refused 8))
 
--- the tables of an event that is not refused for its sizes
-pub record Fits (addresses links deleters : List ℕ) (sizes : Sizes) : Type 0 where
-  pub addresses-long : sizes .nodes ≤ length addresses
-  pub links-long : sizes .nodes ≤ length links
-  pub deleters-long : sizes .nodes ≤ length deleters
-  pub few : sizes .nodes ≤ 4096
-  pub given : sizes .count ≤ sizes .nodes
+-- where a search that ends goes, and with which pending answer: "End of search.", its tests by their answers
+abbrev pub goal : (place answer : ℕ) → Goal
+goal place answer = record { place = place; answer = answer }
+
+unfoldable pub goalOf : (recovering at-own inserts same : Bool) (pending : ℕ) → Goal
+goalOf recovering at-own inserts same pending =
+    cond recovering (cond at-own (goal 18 True) (goal 14 pending))
+    (cond inserts (cond same (goal 18 False) (goal 3 pending)) (cond same (goal 5 pending) (goal 18 False)))
+
+-- ---- events
+
+-- "Order for an event: 7, 1, 2", 0 for none of them, by the answers to their tests
+unfoldable pub refusalIn : (fits there ready : Bool) → ℕ
+refusalIn fits there ready = cond fits (cond there (cond ready 0 2) 1) 7
 
 -- what the place table's step leaves, table by table
 unfoldable pub stepped : List ℕ → List ℕ → List ℕ → Sizes → Process → Record → Left

@@ -6,10 +6,10 @@ ghost use Rattle.record.specs.declared.Process as spec;
 ghost use Rattle.list.specs.Acting.{left};
 ghost use Rattle.list.specs.Parts.{StandsAt, stepped};
 use crate::Acted;
-use crate::Sizes;
 use crate::access;
-use crate::words;
+use crate::answers;
 use record::Record;
+use words::Sizes;
 
 // Place 11: read curr's link; curr is the target.
 pub(crate) fn row_11(addresses: &[u32], links: &[u32], sizes: Sizes, old: Record) -> Acted
@@ -18,18 +18,17 @@ pub(crate) fn row_11(addresses: &[u32], links: &[u32], sizes: Sizes, old: Record
         stepped (now (addresses .entry)) (now (links .entry)) deleters sizes p old) ⌝ }
 {
     let curr = old.lost.curr;
-    let address = old.kept.address;
-    let usable = words::in_use(curr, sizes);
-    let read = access::read_link(links, sizes, usable, curr);
-    let target = read.target;
-    let order = words::compare(addresses, target, address);
-    let there = access::either(
-        order.equal,
-        old.walked(target, 12),
-        old.walked_with(target, 19, 1),
-    );
-    let after = access::either(order.below, old.walked(target, 11), there);
-    access::turn(read.accepted, sizes, old, after)
+    let pending = old.lost.pending;
+    let read = access::read_link(links, sizes, words::in_use(curr, sizes.count), curr);
+    let order = words::compare(addresses, read.target, old.kept.address);
+    let place = answers::pick(order.below, 11, answers::pick(order.equal, 12, 19));
+    let answer = answers::pick(order.below | order.equal, pending, 1);
+    answers::turn(
+        read.accepted,
+        sizes,
+        old,
+        old.walked(read.target, place, answer),
+    )
 }
 
 // Place 12: read curr's link.
@@ -39,8 +38,7 @@ pub(crate) fn row_12(links: &[u32], sizes: Sizes, old: Record) -> Acted
         stepped addresses (now (links .entry)) deleters sizes p old) ⌝ }
 {
     let curr = old.lost.curr;
-    let usable = words::in_use(curr, sizes);
-    let read = access::read_link(links, sizes, usable, curr);
-    let after = access::either(read.mark, old.goes_with(19, 1), old.goes_with(19, 2));
-    access::turn(read.accepted, sizes, old, after)
+    let read = access::read_link(links, sizes, words::in_use(curr, sizes.count), curr);
+    let answer = answers::pick(read.mark, 1, 2);
+    answers::turn(read.accepted, sizes, old, old.goes_with(19, answer))
 }

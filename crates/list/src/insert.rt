@@ -4,43 +4,43 @@ ghost use mathlib.Core.List.{List};
 ghost use Prim.Native.Nat.{ℕ};
 ghost use Rattle.record.specs.declared.Process as spec;
 ghost use Rattle.list.specs.Acting.{left};
-ghost use Rattle.list.specs.Parts.{StandsAt, Room, stepped};
+ghost use Rattle.list.specs.Parts.{StandsAt, Within, stepped};
 use crate::Acted;
-use crate::Sizes;
 use crate::access;
-use crate::words;
+use crate::answers;
 use record::Record;
+use words::Sizes;
 
 // Place 3: write own link.
 pub(crate) fn row_3(links: &mut [u32], sizes: Sizes, old: Record) -> Acted
     requires { ⌜ StandsAt 3 old ⌝ }
-    requires { ⌜ Room (now links) sizes ⌝ }
+    requires { ⌜ Within sizes ⌝ }
     ensures { λ a. ⌜ ((addresses deleters : List ℕ) → (p : spec.Process) → left addresses (now (links .exit)) deleters a ≡
         stepped addresses (now (links .entry)) deleters sizes p old) ⌝ }
 {
     let own = old.kept.node;
     let curr = old.lost.curr;
-    let accepted = words::both(words::some_in_use(own, sizes), words::in_use(curr, sizes));
+    let accepted = access::own_in_use(own, sizes.count) & words::in_use(curr, sizes.count);
     access::write_link(links, accepted, own, curr);
-    access::turn(accepted, sizes, old, old.goes(4))
+    answers::turn(accepted, sizes, old, old.goes(4))
 }
 
 // Place 4: swap pred's link from curr to own.
 pub(crate) fn row_4(links: &mut [u32], sizes: Sizes, old: Record) -> Acted
     requires { ⌜ StandsAt 4 old ⌝ }
-    requires { ⌜ Room (now links) sizes ⌝ }
+    requires { ⌜ Within sizes ⌝ }
     ensures { λ a. ⌜ ((addresses deleters : List ℕ) → (p : spec.Process) → left addresses (now (links .exit)) deleters a ≡
         stepped addresses (now (links .entry)) deleters sizes p old) ⌝ }
 {
     let pred = old.lost.pred;
     let curr = old.lost.curr;
     let own = old.kept.node;
-    let accepted = words::all(
-        words::in_use(pred, sizes),
-        words::in_use(curr, sizes),
-        words::some_in_use(own, sizes),
-    );
-    let swap = access::swap_link(links, accepted, pred, curr, own, false);
-    let after = access::either(swap.wrote, old.goes_with(18, 2), old.goes(0));
-    access::turn(accepted, sizes, old, after)
+    let pending = old.lost.pending;
+    let accepted = words::in_use(pred, sizes.count)
+        & words::in_use(curr, sizes.count)
+        & access::own_in_use(own, sizes.count);
+    let wrote = access::swap_link(links, accepted, pred, curr, own, false);
+    let place = answers::pick(wrote, 18, 0);
+    let answer = answers::pick(wrote, 2, pending);
+    answers::turn(accepted, sizes, old, old.goes_with(place, answer))
 }

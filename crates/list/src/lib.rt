@@ -3,6 +3,7 @@ ghost use mathlib.Core.Path.{_≡_};
 ghost use Rattle.list.specs.Acting.{left, actOn};
 
 mod access;
+mod answers;
 mod delete;
 mod event;
 mod find;
@@ -10,18 +11,11 @@ mod insert;
 mod recovery;
 mod search;
 mod step;
-mod words;
 
 use record::Event;
 use record::Outcome;
 use record::Record;
-
-// The stated sizes, and the count of nodes given out.
-pub struct Sizes {
-    pub nodes: u32,
-    pub processes: u32,
-    pub count: u32,
-}
+use words::Sizes;
 
 // What an event leaves of the record and of the sizes, and its outcome.
 pub struct Acted {
@@ -42,18 +36,13 @@ pub fn act(
     ensures { λ r. ⌜ left (now (addresses .exit)) (now (links .exit)) (now (deleters .exit)) r ≡
         actOn (now (addresses .entry)) (now (links .entry)) (now (deleters .entry)) sizes «record» event ⌝ }
 {
-    let fits = event::tables_fit(addresses.len(), links.len(), deleters.len(), sizes);
-    let there = words::is_there(event::process_of(event), sizes);
+    let fits = words::tables_fit(addresses, links, deleters, sizes);
+    let process = event::process_of(event);
+    let there = process.0 < sizes.processes;
     let ready = record.kept.status == event::status_needed(event);
-    event::judge(
-        addresses,
-        links,
-        deleters,
-        sizes,
-        record,
-        event,
-        fits,
-        there,
-        ready,
-    )
+    let refusal = event::refusal(fits, there, ready);
+    if refusal == 0 {
+        return event::does(addresses, links, deleters, sizes, record, event);
+    }
+    answers::refused(sizes, record, refusal)
 }

@@ -4,19 +4,58 @@ ghost use mathlib.Core.List.{List};
 ghost use Prim.Native.Nat.{ℕ};
 ghost use Rattle.record.specs.declared.Process as spec;
 ghost use Rattle.list.specs.Acting.{left};
-ghost use Rattle.list.specs.Parts.{StandsAt, Room, stepped};
-ghost use mathlib.Core.Bool.{true, cond, not, _&&_};
-ghost use lib.Dec.{ltb, eqb};
-ghost use Rattle.record.specs.Record.{_▸_, succ≔};
-ghost use Rattle.table.specs.Words.{equal};
-ghost use Rattle.table.specs.Places.{searchEnds};
-ghost use Rattle.table.specs.Steps.{recordAfter};
+ghost use Rattle.list.specs.Parts.{StandsAt, Within, stepped, goalOf};
 use crate::Acted;
-use crate::Sizes;
 use crate::access;
-use crate::words;
+use crate::answers;
 use record::Node;
 use record::Record;
+use words::Sizes;
+
+// Where a search that ends goes, and the pending answer that it goes with.
+pub(crate) struct Goal {
+    pub(crate) place: u8,
+    pub(crate) answer: u8,
+}
+
+// The end of a search: recovering or not, at own or not, for an insert or not, at the address or not.
+fn search_ends(recovering: bool, at_own: bool, inserts: bool, same: bool, pending: u8) -> Goal
+    ensures { λ r. ⌜ r ≡ goalOf recovering «at_own» inserts same pending ⌝ }
+{
+    let found = Goal {
+        place: 18,
+        answer: 2,
+    };
+    let refuted = Goal {
+        place: 18,
+        answer: 1,
+    };
+    if recovering {
+        if at_own {
+            return found;
+        }
+        return Goal {
+            place: 14,
+            answer: pending,
+        };
+    }
+    if inserts {
+        if same {
+            return refuted;
+        }
+        return Goal {
+            place: 3,
+            answer: pending,
+        };
+    }
+    if same {
+        return Goal {
+            place: 5,
+            answer: pending,
+        };
+    }
+    refuted
+}
 
 // Place 0: read head's link.
 pub(crate) fn row_0(links: &[u32], sizes: Sizes, old: Record) -> Acted
@@ -25,50 +64,7 @@ pub(crate) fn row_0(links: &[u32], sizes: Sizes, old: Record) -> Acted
         stepped addresses (now (links .entry)) deleters sizes p old) ⌝ }
 {
     let read = access::read_link(links, sizes, true, Node(0));
-    let target = read.target;
-    let after = old.from_head(target);
-    access::turn(read.accepted, sizes, old, after)
-}
-
-// The end of a search at curr, which has the address or not.
-fn search_ends(old: Record, target: Node, same: bool) -> Record
-    ensures { λ r. ⌜ ((addresses : List ℕ) → same ≡ equal addresses (old .lost .curr) (old .kept .address) → r ≡ recordAfter (searchEnds addresses (old ▸ succ≔ target))) ⌝ }
-{
-    let curr = old.lost.curr;
-    let own = old.kept.node;
-    if old.lost.recovering {
-        if curr.0 == own.0 {
-            return old.found_with(target, 18, 2);
-        }
-        return old.found(target, 14);
-    }
-    if old.kept.kind == 0 {
-        if same {
-            return old.found_with(target, 18, 1);
-        }
-        return old.found(target, 3);
-    }
-    if same {
-        return old.found(target, 5);
-    }
-    old.found_with(target, 18, 1)
-}
-
-// Whether own may be used: it is only at the end of a recovering search.
-fn own_fits(sizes: Sizes, old: Record, mark: bool, below: bool) -> bool
-    ensures { λ r. ⌜ r ≡ cond mark true (cond below true (cond (old .lost .recovering) (not (eqb (old .kept .node .0) 0) && ltb (old .kept .node .0) (sizes .count)) true)) ⌝ }
-{
-    let own = old.kept.node;
-    if mark {
-        return true;
-    }
-    if below {
-        return true;
-    }
-    if old.lost.recovering {
-        return words::some_in_use(own, sizes);
-    }
-    true
+    answers::turn(read.accepted, sizes, old, old.from_head(read.target))
 }
 
 // Place 1: read curr's link; on to the next node, or the search ends.
@@ -78,34 +74,40 @@ pub(crate) fn row_1(addresses: &[u32], links: &[u32], sizes: Sizes, old: Record)
         stepped (now (addresses .entry)) (now (links .entry)) deleters sizes p old) ⌝ }
 {
     let curr = old.lost.curr;
-    let address = old.kept.address;
-    let usable = words::in_use(curr, sizes);
-    let read = access::read_link(links, sizes, usable, curr);
-    let target = read.target;
-    let order = words::compare(addresses, curr, address);
-    let own = own_fits(sizes, old, read.mark, order.below);
-    let ends = search_ends(old, target, order.equal);
-    let walks = access::either(order.below, old.onward(target), ends);
-    let after = access::either(read.mark, old.found(target, 2), walks);
-    access::turn(words::both(read.accepted, own), sizes, old, after)
+    let own = old.kept.node;
+    let pending = old.lost.pending;
+    let recovering = old.lost.recovering;
+    let read = access::read_link(links, sizes, words::in_use(curr, sizes.count), curr);
+    let order = words::compare(addresses, curr, old.kept.address);
+    let ends = search_ends(
+        recovering,
+        curr.0 == own.0,
+        old.kept.kind == 0,
+        order.equal,
+        pending,
+    );
+    let passes = read.mark | order.below;
+    let place = answers::pick(read.mark, 2, answers::pick(order.below, 1, ends.place));
+    let answer = answers::pick(passes, pending, ends.answer);
+    let own_fits = passes | !recovering | access::own_in_use(own, sizes.count);
+    let after = old.scans(read.target, !read.mark & order.below, place, answer);
+    answers::turn(read.accepted & own_fits, sizes, old, after)
 }
 
 // Place 2: swap pred's link from curr to succ.
 pub(crate) fn row_2(links: &mut [u32], sizes: Sizes, old: Record) -> Acted
     requires { ⌜ StandsAt 2 old ⌝ }
-    requires { ⌜ Room (now links) sizes ⌝ }
+    requires { ⌜ Within sizes ⌝ }
     ensures { λ a. ⌜ ((addresses deleters : List ℕ) → (p : spec.Process) → left addresses (now (links .exit)) deleters a ≡
         stepped addresses (now (links .entry)) deleters sizes p old) ⌝ }
 {
     let pred = old.lost.pred;
     let curr = old.lost.curr;
     let succ = old.lost.succ;
-    let accepted = words::all(
-        words::in_use(pred, sizes),
-        words::in_use(curr, sizes),
-        words::in_use(succ, sizes),
-    );
-    let swap = access::swap_link(links, accepted, pred, curr, succ, false);
-    let after = access::either(swap.wrote, old.unlinked(), old.goes(0));
-    access::turn(accepted, sizes, old, after)
+    let accepted = words::in_use(pred, sizes.count)
+        & words::in_use(curr, sizes.count)
+        & words::in_use(succ, sizes.count);
+    let wrote = access::swap_link(links, accepted, pred, curr, succ, false);
+    let after = answers::either(wrote, old.unlinked(), old.goes(0));
+    answers::turn(accepted, sizes, old, after)
 }

@@ -4,10 +4,9 @@ ghost use mathlib.Core.Bool.{true};
 ghost use Prim.Native.Nat.{_<_};
 ghost use Rattle.table.specs.Steps.{inRange};
 ghost use Rattle.list.specs.Acting.{left};
-ghost use Rattle.list.specs.Parts.{Room, stepped};
+ghost use Rattle.list.specs.Parts.{Within, stepped};
 use crate::Acted;
-use crate::Sizes;
-use crate::access;
+use crate::answers;
 use crate::delete;
 use crate::find;
 use crate::insert;
@@ -15,6 +14,7 @@ use crate::recovery;
 use crate::search;
 use record::Process;
 use record::Record;
+use words::Sizes;
 
 // Whether the fields of a record are in their ranges.
 fn in_range(old: Record) -> bool
@@ -42,8 +42,7 @@ fn row(
     old: Record,
 ) -> Acted
     requires { ⌜ inRange old ≡ true ⌝ }
-    requires { ⌜ Room (now links) sizes ⌝ }
-    requires { ⌜ Room (now deleters) sizes ⌝ }
+    requires { ⌜ Within sizes ⌝ }
     requires { ⌜ p .0 < 64 ⌝ }
     ensures { λ a. ⌜ left (now (addresses .entry)) (now (links .exit)) (now (deleters .exit)) a ≡
         stepped (now (addresses .entry)) (now (links .entry)) (now (deleters .entry)) sizes p old ⌝ }
@@ -80,33 +79,11 @@ fn row(
         },
         18 => recovery::row_18(sizes, old),
         19 => recovery::row_19(sizes, old),
-        _ => access::refused(sizes, old, 8),
+        _ => answers::refused(sizes, old, 8),
     }
 }
 
 // One step of a running process: its row, or refusal 8 for a record out of its ranges.
-fn step_if(
-    addresses: &[u32],
-    links: &mut [u32],
-    deleters: &mut [u32],
-    sizes: Sizes,
-    p: Process,
-    old: Record,
-    ranged: bool,
-) -> Acted
-    requires { ⌜ ranged ≡ inRange old ⌝ }
-    requires { ⌜ Room (now links) sizes ⌝ }
-    requires { ⌜ Room (now deleters) sizes ⌝ }
-    requires { ⌜ p .0 < 64 ⌝ }
-    ensures { λ a. ⌜ left (now (addresses .entry)) (now (links .exit)) (now (deleters .exit)) a ≡
-        stepped (now (addresses .entry)) (now (links .entry)) (now (deleters .entry)) sizes p old ⌝ }
-{
-    if ranged {
-        return row(addresses, links, deleters, sizes, p, old);
-    }
-    access::refused(sizes, old, 8)
-}
-
 pub(crate) fn step(
     addresses: &[u32],
     links: &mut [u32],
@@ -115,11 +92,14 @@ pub(crate) fn step(
     p: Process,
     old: Record,
 ) -> Acted
-    requires { ⌜ Room (now links) sizes ⌝ }
-    requires { ⌜ Room (now deleters) sizes ⌝ }
+    requires { ⌜ Within sizes ⌝ }
     requires { ⌜ p .0 < 64 ⌝ }
     ensures { λ a. ⌜ left (now (addresses .entry)) (now (links .exit)) (now (deleters .exit)) a ≡
         stepped (now (addresses .entry)) (now (links .entry)) (now (deleters .entry)) sizes p old ⌝ }
 {
-    step_if(addresses, links, deleters, sizes, p, old, in_range(old))
+    let ranged = in_range(old);
+    if ranged {
+        return row(addresses, links, deleters, sizes, p, old);
+    }
+    answers::refused(sizes, old, 8)
 }

@@ -1,6 +1,7 @@
 // The three sorts of number, the process record and its methods by value, events and outcomes: what 01 stores and hands about.
 // Rests on nothing below it.
 ghost use mathlib.Core.Path.{_≡_};
+ghost use mathlib.Core.Bool.{cond};
 ghost use Rattle.record.specs.Record.{lostAt, _▸_, _with_, to, pred≔, curr≔, succ≔, node≔, result≔, status≔, freshRecord, requested, wentDown, restarted, headNode, Idle};
 
 // A node of the table: head is 0, tail 1.
@@ -67,6 +68,16 @@ fn lost_at(place: u8) -> Lost
     }
 }
 
+// The one node or the other.
+fn either(first: bool, one: Node, other: Node) -> Node
+    ensures { λ r. ⌜ r ≡ cond first one other ⌝ }
+{
+    if first {
+        return one;
+    }
+    other
+}
+
 impl Record {
     // A record of zeros.
     pub fn fresh() -> Record
@@ -111,22 +122,15 @@ impl Record {
         self
     }
 
-    // Rows 1 and 6: succ is the target; to a place.
-    pub fn found(mut self, target: Node, place: u8) -> Record
-        ensures { λ r. ⌜ r ≡ (self ▸ succ≔ target ▸ to place) ⌝ }
+    // Row 1: succ is the target; where the search goes onward, pred is curr and curr is succ; to a place with an answer.
+    pub fn scans(mut self, target: Node, onward: bool, place: u8, answer: u8) -> Record
+        ensures { λ r. ⌜ r ≡ (cond onward (self ▸ succ≔ target ▸ pred≔ (self .lost .curr) ▸ curr≔ target) (self ▸ succ≔ target) ▸ place with answer) ⌝ }
     {
+        let pred = either(onward, self.lost.curr, self.lost.pred);
+        let curr = either(onward, target, self.lost.curr);
         let mut lost = self.lost;
-        lost.succ = target;
-        lost.place = place;
-        self.lost = lost;
-        self
-    }
-
-    // Row 1, where the search ends: succ is the target; to a place with an answer.
-    pub fn found_with(mut self, target: Node, place: u8, answer: u8) -> Record
-        ensures { λ r. ⌜ r ≡ (self ▸ succ≔ target ▸ place with answer) ⌝ }
-    {
-        let mut lost = self.lost;
+        lost.pred = pred;
+        lost.curr = curr;
         lost.succ = target;
         lost.place = place;
         lost.pending = answer;
@@ -134,16 +138,13 @@ impl Record {
         self
     }
 
-    // Row 1, below the address: succ is the target, pred is curr, curr is succ; stay.
-    pub fn onward(mut self, target: Node) -> Record
-        ensures { λ r. ⌜ r ≡ (self ▸ succ≔ target ▸ pred≔ (self .lost .curr) ▸ curr≔ target ▸ to 1) ⌝ }
+    // Row 6: succ is the target; to a place.
+    pub fn found(mut self, target: Node, place: u8) -> Record
+        ensures { λ r. ⌜ r ≡ (self ▸ succ≔ target ▸ to place) ⌝ }
     {
-        let curr = self.lost.curr;
         let mut lost = self.lost;
         lost.succ = target;
-        lost.pred = curr;
-        lost.curr = target;
-        lost.place = 1;
+        lost.place = place;
         self.lost = lost;
         self
     }
@@ -172,19 +173,8 @@ impl Record {
         self
     }
 
-    // Row 11: curr is the target; to a place.
-    pub fn walked(mut self, target: Node, place: u8) -> Record
-        ensures { λ r. ⌜ r ≡ (self ▸ curr≔ target ▸ to place) ⌝ }
-    {
-        let mut lost = self.lost;
-        lost.curr = target;
-        lost.place = place;
-        self.lost = lost;
-        self
-    }
-
-    // Row 11, above the address: curr is the target; to a place with an answer.
-    pub fn walked_with(mut self, target: Node, place: u8, answer: u8) -> Record
+    // Row 11: curr is the target; to a place with an answer.
+    pub fn walked(mut self, target: Node, place: u8, answer: u8) -> Record
         ensures { λ r. ⌜ r ≡ (self ▸ curr≔ target ▸ place with answer) ⌝ }
     {
         let mut lost = self.lost;

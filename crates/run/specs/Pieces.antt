@@ -12,7 +12,7 @@ use Rattle.record.specs.declared.Outcome.the-variants as outcome
 use Rattle.table.specs.Words.{Memory, memory, linkAt, addressAt, targetOf, aboveAll}
 use Rattle.table.specs.Chain.{goesOn}
 use Rattle.table.specs.Events.{State, stateOf, event}
-use Rattle.list.specs.declared.Sizes.{Sizes}
+use Rattle.words.specs.declared.Sizes.{Sizes}
 use Rattle.schedule.specs.declared.Cursor.{Cursor}
 use Rattle.schedule.specs.declared.EventRead.the-variants as read
 use Rattle.schedule.specs.declared.HeaderRead.the-variants as header

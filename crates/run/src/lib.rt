@@ -14,7 +14,6 @@ use keys::fill_keys;
 use lent::Made;
 use lent::fresh_tables;
 use lines::fill_lines;
-use list::Sizes;
 use record::Node;
 use record::Outcome;
 use record::Record;
@@ -22,6 +21,7 @@ use schedule::Cursor;
 use schedule::HeaderRead;
 use schedule::read_header;
 use text::put_line;
+use words::Sizes;
 
 // What a run does next: it says why its header was refused, acts on events, walks on along the chain from a node, for at most so many steps,
 // or is over.

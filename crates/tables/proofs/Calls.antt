@@ -12,9 +12,9 @@ use Rattle.record.specs.declared.Record.{Record}
 use Rattle.record.specs.declared.Event.{Event}
 use Rattle.record.proofs.Event as event-type
 use Rattle.record.proofs.Event.Laws as event-laws
-use Rattle.list.specs.declared.Sizes.{Sizes}
-use Rattle.list.proofs.Sizes as sizes-type
-use Rattle.list.proofs.Sizes.Laws as sizes-laws
+use Rattle.words.specs.declared.Sizes.{Sizes}
+use Rattle.words.proofs.Sizes as sizes-type
+use Rattle.words.proofs.Sizes.Laws as sizes-laws
 use Rattle.lent.specs.declared.Said.{Said}
 use Rattle.lent.specs.Lent.{leaves, actIn}
 use Rattle.lent.proofs.Tables.{tableOf, Lent}

@@ -9,10 +9,10 @@ ghost use lib.ListN.{take, drop};
 ghost use Rattle.lent.specs.Lent.{leaves, actIn};
 ghost use Rattle.tables.specs.Lengths.{Held, AsRead};
 use lent::Said;
-use list::Sizes;
 use reading::Tables;
 use record::Event;
 use record::Record;
+use words::Sizes;
 
 // The records after an event, and what it says.
 struct Acted {

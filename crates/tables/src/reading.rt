@@ -2,7 +2,6 @@
 // row's lent length and its records; the event. Every number is in 01's form, and a bad one makes the case bad.
 ghost use Prim.Native.Nat.{_≤_};
 ghost use Rattle.tables.specs.Lengths.{Whole, AsRead};
-use list::Sizes;
 use record::Address;
 use record::Event;
 use record::Kept;
@@ -11,6 +10,7 @@ use record::Node;
 use record::Process;
 use record::Record;
 use schedule::NumberRead;
+use words::Sizes;
 
 // The largest number, the most words or records that are lent, the largest byte.
 const MOST: u32 = 4294967295;

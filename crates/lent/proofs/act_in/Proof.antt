@@ -30,9 +30,9 @@ use Rattle.record.proofs.Outcome.Laws as outcome-laws
 use Rattle.record.proofs.Record.fresh.Symbol as fresh-def
 use Rattle.record.proofs.Record.fresh.Symbol.{name as #fresh}
 use Rattle.record.proofs.Record.fresh.Met as fresh-thm
-use Rattle.list.specs.declared.Sizes.{Sizes}
-use Rattle.list.proofs.Sizes as sizes-type
-use Rattle.list.proofs.Sizes.Laws as sizes-laws
+use Rattle.words.specs.declared.Sizes.{Sizes}
+use Rattle.words.proofs.Sizes as sizes-type
+use Rattle.words.proofs.Sizes.Laws as sizes-laws
 use Rattle.list.proofs.act.Symbol as act-def
 use Rattle.list.proofs.act.Symbol.{name as #act}
 use Rattle.list.proofs.act.Met as act-thm

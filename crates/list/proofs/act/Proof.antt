@@ -1,6 +1,8 @@
 -- What was found of sizes, process and status is what the event is judged by.
-use mathlib.Core.Path.{_∙_}
-use Rattle.table.specs.Events.{tablesFit}
+use mathlib.Core.Path.{sym, ap, _∙_}
+use lib.Dec.{ltb}
+use Rattle.record.specs.declared.Process.{Process}
+use Rattle.list.proofs.Judged.{none-refuses, refuses, acts, within, few-processes}
 use borrow.Author.Needs.{needs}
 use Rattle.list.proofs.act.Statement.{statement}
 use Rattle.list.proofs.act.Tie as tie
@@ -11,23 +13,19 @@ tables-fit-requires c κs = search needs
 process-of-requires : tie.Need-process-of-requires
 process-of-requires c κs = search needs
 
-is-there-requires : tie.Need-is-there-requires
-is-there-requires c κs = search needs
-
 status-needed-requires : tie.Need-status-needed-requires
 status-needed-requires c κs = search needs
 
-judge-requires : tie.Need-judge-requires
-unfolding tablesFit
-judge-requires c κs = (
-  c .before .before .before .before .before .before .before .tables-fit .ensures,
-  (
-    c .before .before .before .before .before .is-there .ensures ∙ rw
-        (c .before .before .before .before .before .before .process-of .ensures),
-    rw
-        (c .before .before .before .before .status-needed .ensures),
-  ),
-)
+refusal-requires : tie.Need-refusal-requires
+refusal-requires c κs = search needs
+
+does-requires : tie.Need-does-requires
+does-requires c κs =
+    let tests = none-refuses _ _ _ _ (c .before .before .before .before .refusal .ensures) (c .before .before .before .if1 .taken) in
+    let fits = sym (c .before .before .before .before .before .before .before .before .before .before .tables-fit .ensures) ∙ tests .0 in (
+      within _ _ _ _ fits,
+      few-processes _ _ _ _ fits _ (ap (λ (p : Process). ltb (p .0) (c .before .before .before .before .before .before .before .before .before .before .before .before .before .before .before .before .before .args .sizes .processes)) (sym (c .before .before .before .before .before .before .before .before .before .process-of .ensures)) ∙ tests .1),
+    )
 
 same-length : tie.Need-same-length
 same-length c = search needs
@@ -39,7 +37,24 @@ same-length-3 : tie.Need-same-length-3
 same-length-3 c = search needs
 
 returns : tie.Need-returns
-returns c = search needs
+returns c =
+    acts _ _ _ _ _ _ _ (c .before .before .before .before .before .before .before .before .before .before .before .refusal .ensures ∙ rw (c .before .before .before .before .before .before .before .before .before .before .before .before .before .before .before .before .before .tables-fit .ensures, c .before .before .before .before .before .before .before .before .before .before .before .before .before .before .before .before .process-of .ensures, c .before .before .before .before .before .before .before .before .before .before .before .before .before .status-needed .ensures)) (c .before .before .before .before .before .before .before .before .before .before .if1 .taken) _ (c .before .before .before .before .before .before .does .ensures)
+
+refused-requires : tie.Need-refused-requires
+refused-requires c κs = search needs
+
+same-length-4 : tie.Need-same-length-4
+same-length-4 c = search needs
+
+same-length-5 : tie.Need-same-length-5
+same-length-5 c = search needs
+
+same-length-6 : tie.Need-same-length-6
+same-length-6 c = search needs
+
+returns-2 : tie.Need-returns-2
+returns-2 c =
+    refuses _ _ _ _ _ _ _ (c .before .before .refusal .ensures ∙ rw (c .before .before .before .before .before .before .before .before .tables-fit .ensures, c .before .before .before .before .before .before .before .process-of .ensures, c .before .before .before .before .status-needed .ensures)) (c .before .if1 .left) _ (c .refused .ensures)
 
 pub act-spec : {M : Type 1} → statement M
 act-spec =
@@ -47,10 +62,15 @@ act-spec =
     (tie.spec
     tables-fit-requires
     process-of-requires
-    is-there-requires
     status-needed-requires
-    judge-requires
+    refusal-requires
+    does-requires
     same-length
     same-length-2
     same-length-3
-    returns)
+    returns
+    refused-requires
+    same-length-4
+    same-length-5
+    same-length-6
+    returns-2)

@@ -28,9 +28,9 @@ use Rattle.record.proofs.Record as record-type
 use Rattle.record.proofs.Record.Laws as record-laws
 use Rattle.record.proofs.Event as event-type
 use Rattle.record.proofs.Event.Laws as event-laws
-use Rattle.list.specs.declared.Sizes.{Sizes}
-use Rattle.list.proofs.Sizes as sizes-type
-use Rattle.list.proofs.Sizes.Laws as sizes-laws
+use Rattle.words.specs.declared.Sizes.{Sizes}
+use Rattle.words.proofs.Sizes as sizes-type
+use Rattle.words.proofs.Sizes.Laws as sizes-laws
 use Rattle.lent.specs.declared.Said.{Said}
 use Rattle.lent.specs.Lent.{leaves, actIn}
 use Rattle.lent.proofs.Said as said-type

@@ -10,7 +10,8 @@ deleter-word-requires : tie.Need-deleter-word-requires
 deleter-word-requires c κs = search needs
 
 returns : tie.Need-returns
-returns c = rw (c .deleter-word .ensures, c .before .word-at .ensures)
+returns c =
+    rw (c .deleter-word .ensures, c .before .word-at .ensures)
 
 pub read-deleter-spec : {M : Type 1} → statement M
 read-deleter-spec = tie.close (tie.spec word-at-requires deleter-word-requires returns)

@@ -13,29 +13,15 @@ target-of-requires c κs = search needs
 in-use-requires : tie.Need-in-use-requires
 in-use-requires c κs = search needs
 
-both-requires : tie.Need-both-requires
-both-requires c κs = search needs
-
 is-marked-requires : tie.Need-is-marked-requires
 is-marked-requires c κs = search needs
 
 returns : tie.Need-returns
 unfolding readOf
-returns c = rw (
-  c .is-marked .ensures,
-  c .before .both .ensures,
-  c .before .before .in-use .ensures,
-  c .before .before .before .target-of .ensures,
-  c .before .before .before .before .word-at .ensures,
-)
+returns c =
+    rw (c .is-marked .ensures, c .before .in-use .ensures, c .before .before .target-of .ensures, c .before .before .before .word-at .ensures)
 
 pub read-link-spec : {M : Type 1} → statement M
 read-link-spec =
     tie.close
-    (tie.spec
-    word-at-requires
-    target-of-requires
-    in-use-requires
-    both-requires
-    is-marked-requires
-    returns)
+    (tie.spec word-at-requires target-of-requires in-use-requires is-marked-requires returns)

@@ -10,17 +10,19 @@ deleter-word-requires : tie.Need-deleter-word-requires
 deleter-word-requires c κs = search needs
 
 swap-requires : tie.Need-swap-requires
-swap-requires c κs = c .before .before .before .before .pre .0 (search needs)
+swap-requires c κs = search needs
 
 same-length : tie.Need-same-length
 same-length c = search needs
 
 returns : tie.Need-returns
-returns c = search (needs, where-accepted)
+returns c =
+    search (needs, where-accepted)
 
 returns-2 : tie.Need-returns-2
 unfolding swapWhere
-returns-2 c = search (needs, conds)
+returns-2 c =
+    search (needs, conds)
 
 pub swap-deleter-spec : {M : Type 1} → statement M
 swap-deleter-spec =

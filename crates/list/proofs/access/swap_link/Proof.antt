@@ -7,23 +7,27 @@ use Rattle.list.proofs.access.swap_link.Statement.{statement}
 use Rattle.list.proofs.access.swap_link.Tie as tie
 
 link-word-requires : tie.Need-link-word-requires
-link-word-requires c κs = c .before .before .pre .from-small (search needs)
+link-word-requires c κs =
+    c .before .before .pre .from-small (search needs)
 
 link-word-requires-2 : tie.Need-link-word-requires-2
-link-word-requires-2 c κs = c .before .before .before .pre .to-small (search needs)
+link-word-requires-2 c κs =
+    c .before .before .before .pre .to-small (search needs)
 
 swap-requires : tie.Need-swap-requires
-swap-requires c κs = c .before .before .before .before .before .pre .inside (search needs)
+swap-requires c κs = search needs
 
 same-length : tie.Need-same-length
 same-length c = search needs
 
 returns : tie.Need-returns
-returns c = search (needs, where-accepted)
+returns c =
+    search (needs, where-accepted)
 
 returns-2 : tie.Need-returns-2
 unfolding swapWhere
-returns-2 c = search (needs, conds)
+returns-2 c =
+    search (needs, conds)
 
 pub swap-link-spec : {M : Type 1} → statement M
 swap-link-spec =

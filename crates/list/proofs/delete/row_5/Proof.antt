@@ -1,4 +1,4 @@
--- Place 5 writes the record.
+-- Place 5 writes the record's node.
 use mathlib.Core.Path.{refl}
 use Rattle.list.proofs.Turns.{write-node}
 use Rattle.table.specs.Places.{row, placeOf, curr}
@@ -19,7 +19,7 @@ returns : tie.Need-returns
 unfolding row placeOf
 returns c addresses links deleters p =
     rw (c .turn .ensures, c .before .takes-curr .ensures, c .before .before .in-use .ensures)
-    (write-node addresses links deleters _ p _ 5 (c .before .before .before .before .pre) curr _ refl)
+    (write-node addresses links deleters _ p _ 5 (c .before .before .before .pre) curr _ refl)
 
 pub row-5-spec : {M : Type 1} → statement M
 row-5-spec = tie.close (tie.spec in-use-requires takes-curr-requires turn-requires returns)

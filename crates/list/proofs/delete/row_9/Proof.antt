@@ -1,7 +1,6 @@
 -- Place 9 swaps a deleter.
 use mathlib.Core.Path.{refl}
 use Rattle.list.proofs.Turns.{swapped-deleter}
-use Rattle.list.proofs.Tested.{one-reach, plain}
 use Rattle.table.specs.Places.{row, placeOf, curr}
 use borrow.Author.Needs.{needs}
 use Rattle.list.proofs.delete.row_9.Statement.{statement}
@@ -11,10 +10,7 @@ in-use-requires : tie.Need-in-use-requires
 in-use-requires c κs = search needs
 
 swap-deleter-requires : tie.Need-swap-deleter-requires
-swap-deleter-requires c κs = (
-  one-reach _ _ _ _ (c .before .before .before .before .pre .1 .1) (plain _ _ _ (c .before .in-use .ensures)),
-  c .before .before .before .before .pre .1 .0,
-)
+swap-deleter-requires c κs = search needs
 
 goes-requires : tie.Need-goes-requires
 goes-requires c κs = search needs
@@ -29,9 +25,7 @@ returns : tie.Need-returns
 unfolding row placeOf
 returns c addresses links =
     rw (c .turn .ensures, c .before .goes .ensures)
-    (swapped-deleter addresses links _ _ _ _ 9
-    (c .before .before .before .before .before .before .before .before .before .pre .0) curr _ _ _ _ refl
-    (c .before .before .before .before .before .before .in-use .ensures) (c .before .before .before .before .swap-deleter .ensures))
+    (swapped-deleter addresses links _ _ _ _ 9 (c .before .before .before .before .before .before .before .before .before .pre .0) curr _ _ _ _ refl (c .before .before .before .before .before .before .in-use .ensures) (c .before .before .before .before .swap-deleter .ensures))
 
 pub row-9-spec : {M : Type 1} → statement M
 row-9-spec =

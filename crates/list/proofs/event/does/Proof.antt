@@ -1,5 +1,5 @@
 -- What each kind does.
-use Rattle.list.proofs.Judged.{kinds, stepping, room-of-links, room-of-deleters}
+use Rattle.list.proofs.Judged.{kinds, stepping}
 use borrow.Author.Needs.{needs}
 use Rattle.list.proofs.event.does.Statement.{statement}
 use Rattle.list.proofs.event.does.Tie as tie
@@ -33,7 +33,7 @@ enum-known-event-4 c = search needs
 
 step-requires : tie.Need-step-requires
 step-requires c κs =
-    search (needs, stepping, room-of-links, room-of-deleters)
+    search (needs, stepping)
 
 enum-told : tie.Need-enum-told
 enum-told c = search needs

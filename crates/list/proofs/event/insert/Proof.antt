@@ -4,9 +4,6 @@ use borrow.Author.Needs.{needs}
 use Rattle.list.proofs.event.insert.Statement.{statement}
 use Rattle.list.proofs.event.insert.Tie as tie
 
-cast-at : tie.Need-cast-at
-cast-at c = search needs
-
 add-t11 : tie.Need-add-t11
 add-t11 c = search needs
 
@@ -20,23 +17,14 @@ returns c =
 link-word-requires : tie.Need-link-word-requires
 link-word-requires c κs = search needs
 
-mul-addresses : tie.Need-mul-addresses
-mul-addresses c = search needs
+write-requires : tie.Need-write-requires
+write-requires c κs = search needs
 
-slice-write-addresses : tie.Need-slice-write-addresses
-slice-write-addresses c = search needs
+write-requires-2 : tie.Need-write-requires-2
+write-requires-2 c κs = search needs
 
-mul-links : tie.Need-mul-links
-mul-links c = search needs
-
-slice-write-links : tie.Need-slice-write-links
-slice-write-links c = search needs
-
-mul-deleters : tie.Need-mul-deleters
-mul-deleters c = search needs
-
-slice-write-deleters : tie.Need-slice-write-deleters
-slice-write-deleters c = search needs
+write-requires-3 : tie.Need-write-requires-3
+write-requires-3 c κs = search needs
 
 request-requires : tie.Need-request-requires
 request-requires c κs = search needs
@@ -45,7 +33,8 @@ accepted-requires : tie.Need-accepted-requires
 accepted-requires c κs = search needs
 
 same-length : tie.Need-same-length
-same-length c = search needs
+same-length c =
+    c .before .before .before .before .before .before .before .before .before .before .before .addresses .given
 
 same-length-2 : tie.Need-same-length-2
 same-length-2 c = search needs
@@ -55,23 +44,20 @@ same-length-3 c = search needs
 
 returns-2 : tie.Need-returns-2
 returns-2 c =
-    search (needs, gives-out)
+    gives-out _ _ _ _ _ _ _ _ _ _ _ _ _ (c .before .before .before .before .before .before .before .before .before .before .before .before .write .ensures) (c .before .before .before .before .before .before .before .before .write2 .ensures) (c .before .before .before .before .write3 .ensures) (c .before .before .before .before .before .before .before .before .before .before .before .before .before .before .link-word .ensures) (c .before .before .before .before .before .before .before .before .before .before .before .before .before .before .before .if1 .left)
+    (c .accepted .ensures) (c .before .request .ensures)
 
 pub insert-spec : {M : Type 1} → statement M
 insert-spec =
     tie.close
     (tie.spec
-    cast-at
     add-t11
     refused-requires
     returns
     link-word-requires
-    mul-addresses
-    slice-write-addresses
-    mul-links
-    slice-write-links
-    mul-deleters
-    slice-write-deleters
+    write-requires
+    write-requires-2
+    write-requires-3
     request-requires
     accepted-requires
     same-length

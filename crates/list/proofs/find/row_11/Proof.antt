@@ -1,8 +1,7 @@
 -- Place 11 reads a link.
-use mathlib.Core.Path.{refl}
-use Rattle.list.proofs.Turns.{read-link}
-use Rattle.list.specs.Parts.{readOf, orderOf}
-use Rattle.table.specs.Places.{row, placeOf, curr}
+use Rattle.list.proofs.Ends.{walks}
+use Rattle.words.specs.Lent.{orderOf}
+use Rattle.list.specs.Parts.{readOf}
 use borrow.Author.Needs.{needs}
 use Rattle.list.proofs.find.row_11.Statement.{statement}
 use Rattle.list.proofs.find.row_11.Tie as tie
@@ -16,40 +15,26 @@ read-link-requires c κs = search needs
 compare-requires : tie.Need-compare-requires
 compare-requires c κs = search needs
 
+pick-requires : tie.Need-pick-requires
+pick-requires c κs = search needs
+
+pick-requires-2 : tie.Need-pick-requires-2
+pick-requires-2 c κs = search needs
+
+pick-requires-3 : tie.Need-pick-requires-3
+pick-requires-3 c κs = search needs
+
 walked-requires : tie.Need-walked-requires
 walked-requires c κs = search needs
-
-walked-with-requires : tie.Need-walked-with-requires
-walked-with-requires c κs = search needs
-
-either-requires : tie.Need-either-requires
-either-requires c κs = search needs
-
-walked-requires-2 : tie.Need-walked-requires-2
-walked-requires-2 c κs = search needs
-
-either-requires-2 : tie.Need-either-requires-2
-either-requires-2 c κs = search needs
 
 turn-requires : tie.Need-turn-requires
 turn-requires c κs = search needs
 
 returns : tie.Need-returns
-unfolding row placeOf readOf orderOf
+unfolding readOf orderOf
 returns c deleters p =
-    rw (
-      c .turn .ensures,
-      c .before .either2 .ensures,
-      c .before .before .walked2 .ensures,
-      c .before .before .before .either .ensures,
-      c .before .before .before .before .walked-with .ensures,
-      c .before .before .before .before .before .walked .ensures,
-      c .before .before .before .before .before .before .compare .ensures,
-      c .before .before .before .before .before .before .before .before .read-link .ensures,
-      c .before .before .before .before .before .before .before .before .before .in-use .ensures,
-    )
-    (read-link _ _ deleters _ p _ 11
-    (c .before .before .before .before .before .before .before .before .before .before .before .before .before .before .pre) curr _ refl)
+    rw (c .turn .ensures, c .before .walked .ensures, c .before .before .pick3 .ensures, c .before .before .before .before .pick2 .ensures, c .before .before .before .before .before .pick .ensures, c .before .before .before .before .before .before .compare .ensures, c .before .before .before .before .before .before .before .read-link .ensures, c .before .before .before .before .before .before .before .before .in-use .ensures)
+    (walks _ _ deleters _ p _ (c .before .before .before .before .before .before .before .before .before .before .before .before .pre))
 
 pub row-11-spec : {M : Type 1} → statement M
 row-11-spec =
@@ -58,10 +43,9 @@ row-11-spec =
     in-use-requires
     read-link-requires
     compare-requires
+    pick-requires
+    pick-requires-2
+    pick-requires-3
     walked-requires
-    walked-with-requires
-    either-requires
-    walked-requires-2
-    either-requires-2
     turn-requires
     returns)

@@ -1,19 +1,44 @@
 -- Place 13 meets no word.
-use mathlib.Core.Path.{refl}
-use Rattle.list.proofs.Turns.{own-record}
-use Rattle.table.specs.Places.{row, placeOf}
+use Rattle.list.proofs.Ends.{resumed}
 use borrow.Author.Needs.{needs}
 use Rattle.list.proofs.recovery.row_13.Statement.{statement}
 use Rattle.list.proofs.recovery.row_13.Tie as tie
 
-resumes-requires : tie.Need-resumes-requires
-resumes-requires c κs = search needs
+pick-requires : tie.Need-pick-requires
+pick-requires c κs = search needs
+
+pick-requires-2 : tie.Need-pick-requires-2
+pick-requires-2 c κs = search needs
+
+pick-requires-3 : tie.Need-pick-requires-3
+pick-requires-3 c κs = search needs
+
+pick-requires-4 : tie.Need-pick-requires-4
+pick-requires-4 c κs = search needs
+
+pick-requires-5 : tie.Need-pick-requires-5
+pick-requires-5 c κs = search needs
+
+goes-with-requires : tie.Need-goes-with-requires
+goes-with-requires c κs = search needs
+
+accepted-requires : tie.Need-accepted-requires
+accepted-requires c κs = search needs
 
 returns : tie.Need-returns
-unfolding row placeOf
 returns c addresses links deleters p =
-    rw (c .resumes .ensures)
-    (own-record addresses links deleters _ p _ 13 (c .before .pre) _ refl)
+    rw (c .accepted .ensures, c .before .goes-with .ensures, c .before .before .pick5 .ensures, c .before .before .before .pick4 .ensures, c .before .before .before .before .pick3 .ensures, c .before .before .before .before .before .pick2 .ensures, c .before .before .before .before .before .before .pick .ensures)
+    (resumed addresses links deleters _ p _ (c .before .before .before .before .before .before .before .before .before .before .before .pre))
 
 pub row-13-spec : {M : Type 1} → statement M
-row-13-spec = tie.close (tie.spec resumes-requires returns)
+row-13-spec =
+    tie.close
+    (tie.spec
+    pick-requires
+    pick-requires-2
+    pick-requires-3
+    pick-requires-4
+    pick-requires-5
+    goes-with-requires
+    accepted-requires
+    returns)

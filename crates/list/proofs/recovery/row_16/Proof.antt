@@ -1,20 +1,16 @@
 -- Place 16 swaps a deleter.
 use mathlib.Core.Path.{refl}
 use Rattle.list.proofs.Turns.{swapped-deleter}
-use Rattle.list.proofs.Tested.{one-reach, some}
 use Rattle.table.specs.Places.{row, placeOf, own}
 use borrow.Author.Needs.{needs}
 use Rattle.list.proofs.recovery.row_16.Statement.{statement}
 use Rattle.list.proofs.recovery.row_16.Tie as tie
 
-some-in-use-requires : tie.Need-some-in-use-requires
-some-in-use-requires c κs = search needs
+own-in-use-requires : tie.Need-own-in-use-requires
+own-in-use-requires c κs = search needs
 
 swap-deleter-requires : tie.Need-swap-deleter-requires
-swap-deleter-requires c κs = (
-  one-reach _ _ _ _ (c .before .before .before .before .pre .1 .1) (some _ _ _ (c .before .some-in-use .ensures)),
-  c .before .before .before .before .pre .1 .0,
-)
+swap-deleter-requires c κs = search needs
 
 goes-requires : tie.Need-goes-requires
 goes-requires c κs = search needs
@@ -29,16 +25,13 @@ returns : tie.Need-returns
 unfolding row placeOf
 returns c addresses links =
     rw (c .turn .ensures, c .before .goes .ensures)
-    (swapped-deleter addresses links _ _ _ _ 16
-    (c .before .before .before .before .before .before .before .before .before .pre .0) own _ _ _ _ refl
-    (c .before .before .before .before .before .before .some-in-use .ensures)
-    (c .before .before .before .before .swap-deleter .ensures))
+    (swapped-deleter addresses links _ _ _ _ 16 (c .before .before .before .before .before .before .before .before .before .pre .0) own _ _ _ _ refl (c .before .before .before .before .before .before .own-in-use .ensures) (c .before .before .before .before .swap-deleter .ensures))
 
 pub row-16-spec : {M : Type 1} → statement M
 row-16-spec =
     tie.close
     (tie.spec
-    some-in-use-requires
+    own-in-use-requires
     swap-deleter-requires
     goes-requires
     turn-requires

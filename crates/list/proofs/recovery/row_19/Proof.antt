@@ -1,4 +1,4 @@
--- Place 19 meets no word.
+-- Place 19 meets no word, and hands out.
 use mathlib.Core.Path.{refl}
 use Rattle.list.proofs.Turns.{hand-out}
 use Rattle.table.specs.Places.{row, placeOf}

@@ -1,7 +1,9 @@
 -- Place 2 swaps a link.
 use mathlib.Core.Path.{refl}
+use mathlib.Core.Bool.{cond}
+use Rattle.record.specs.Record.{_▸_, curr≔, to}
 use Rattle.list.proofs.Turns.{swapped-link}
-use Rattle.list.proofs.Tested.{three-reach, plain}
+use Rattle.list.proofs.Tested.{three-small, plain}
 use Rattle.table.specs.Places.{row, placeOf, pred}
 use borrow.Author.Needs.{needs}
 use Rattle.list.proofs.search.row_2.Statement.{statement}
@@ -16,16 +18,11 @@ in-use-requires-2 c κs = search needs
 in-use-requires-3 : tie.Need-in-use-requires-3
 in-use-requires-3 c κs = search needs
 
-all-requires : tie.Need-all-requires
-all-requires c κs = search needs
-
 swap-link-requires : tie.Need-swap-link-requires
 swap-link-requires c κs =
-    three-reach _ _ (c .before .before .before .before .before .before .before .before .before .pre .1) _ _ _ _ _ _ _
-    (c .before .all .ensures)
-    (plain _ _ _ (c .before .before .before .before .in-use .ensures))
-    (plain _ _ _ (c .before .before .before .in-use2 .ensures))
-    (plain _ _ _ (c .before .before .in-use3 .ensures))
+    three-small _ (c .before .before .before .before .before .before .before .before .pre .1) _ _ (c .before .before .before .in-use .result) (c .before .before .in-use2 .result) _
+    (plain _ _ _ (c .before .before .in-use2 .ensures))
+    (plain _ _ _ (c .before .in-use3 .ensures))
 
 unlinked-requires : tie.Need-unlinked-requires
 unlinked-requires c κs = search needs
@@ -46,15 +43,8 @@ returns : tie.Need-returns
 unfolding row placeOf
 returns c addresses deleters p =
     rw (c .turn .ensures, c .before .either .ensures, c .before .before .goes .ensures, c .before .before .before .unlinked .ensures)
-    (swapped-link addresses _ deleters _ p _ 2
-    (c .before .before .before .before .before .before .before .before .before .before .before .before .before .before .before .before .pre .0) pred _ _ _ _ _ _ _ refl
-    (rw (
-      c .before .before .before .before .before .before .before .before .all .ensures,
-      c .before .before .before .before .before .before .before .before .before .in-use3 .ensures,
-      c .before .before .before .before .before .before .before .before .before .before .in-use2 .ensures,
-      c .before .before .before .before .before .before .before .before .before .before .before .in-use .ensures,
-    ))
-    (c .before .before .before .before .before .before .swap-link .ensures))
+    (swapped-link addresses _ deleters _ p _ 2 (c .before .before .before .before .before .before .before .before .before .before .before .before .before .before .before .pre .0) pred _ _ _ _ (λ r b. cond b (r ▸ curr≔ (r .lost .succ) ▸ to 1) (r ▸ to 0)) _ _ _ refl (λ b. refl)
+    (rw (c .before .before .before .before .before .before .before .before .in-use3 .ensures, c .before .before .before .before .before .before .before .before .before .in-use2 .ensures, c .before .before .before .before .before .before .before .before .before .before .in-use .ensures)) (c .before .before .before .before .before .before .swap-link .ensures))
 
 pub row-2-spec : {M : Type 1} → statement M
 row-2-spec =
@@ -63,7 +53,6 @@ row-2-spec =
     in-use-requires
     in-use-requires-2
     in-use-requires-3
-    all-requires
     swap-link-requires
     unlinked-requires
     goes-requires

@@ -1,0 +1,61 @@
+// What a row chooses, and what it then answers. Rests on nothing of this crate but its types.
+ghost use mathlib.Core.Path.{_≡_};
+ghost use mathlib.Core.Bool.{cond};
+ghost use Rattle.record.specs.declared.Outcome.the-variants.{Refused, Accepted};
+ghost use Rattle.list.specs.Parts.{answered, turnOf};
+use crate::Acted;
+use record::Outcome;
+use record::Record;
+use words::Sizes;
+
+// The one number or the other.
+pub(crate) fn pick(first: bool, one: u8, other: u8) -> u8
+    ensures { λ r. ⌜ r ≡ cond first one other ⌝ }
+{
+    if first {
+        return one;
+    }
+    other
+}
+
+// The one record or the other.
+pub(crate) fn either(first: bool, one: Record, other: Record) -> Record
+    ensures { λ r. ⌜ r ≡ cond first one other ⌝ }
+{
+    if first {
+        return one;
+    }
+    other
+}
+
+// Nothing changed, and the refusal's number.
+pub(crate) fn refused(sizes: Sizes, old: Record, number: u8) -> Acted
+    ensures { λ r. ⌜ r ≡ answered sizes old (Refused number) ⌝ }
+{
+    Acted {
+        advanced: old,
+        sizes,
+        outcome: Outcome::Refused(number),
+    }
+}
+
+// The record advanced, and nothing handed out.
+pub(crate) fn accepted(sizes: Sizes, after: Record) -> Acted
+    ensures { λ r. ⌜ r ≡ answered sizes after Accepted ⌝ }
+{
+    Acted {
+        advanced: after,
+        sizes,
+        outcome: Outcome::Accepted,
+    }
+}
+
+// The record after an accepted step, or the old one with refusal 8.
+pub(crate) fn turn(fits: bool, sizes: Sizes, old: Record, after: Record) -> Acted
+    ensures { λ r. ⌜ r ≡ turnOf fits sizes old after ⌝ }
+{
+    if fits {
+        return accepted(sizes, after);
+    }
+    refused(sizes, old, 8)
+}

@@ -1,0 +1,31 @@
+-- What is asked of lent words, spelt with this crate's types. Rests on the table's Words.
+use mathlib.Core.Bool.{Bool, true, false, cond}
+use mathlib.Core.List.{List, []}
+use Prim.Native.Nat.{ℕ}
+use lib.Dec.{eqb}
+use lib.ListN.{getD, set}
+use Rattle.record.specs.declared.Node.{Node}
+use Rattle.record.specs.declared.Address.{Address}
+use Rattle.table.specs.Words.{memory, inUse, below, equal}
+use Rattle.words.specs.declared.Order.{Order}
+
+-- a node in use, of which only the count decides
+abbrev pub usedBelow : (count : ℕ) → Node → Bool
+usedBelow count n = inUse (memory [] [] [] count) n
+
+-- how a node stands to an address
+unfoldable pub orderOf : List ℕ → Node → Address → Order
+orderOf addresses n a = record { below = below addresses n a; equal = equal addresses n a }
+
+-- the table after a swap, and whether it wrote
+pub record Swapped : Type 0 where
+  pub words : List ℕ
+  pub wrote : Bool
+
+abbrev pub swapped : List ℕ → Bool → Swapped
+swapped words wrote = record { words = words; wrote = wrote }
+
+-- "A swap compares the whole link or deleter word and writes only if equal."
+unfoldable pub swapOf : List ℕ → Node → (expected new : ℕ) → Swapped
+swapOf words n expected new =
+    cond (eqb (getD words (n .0) 0) expected) (swapped (set words (n .0) new) true) (swapped words false)

@@ -1,0 +1,128 @@
+// The stated sizes and the words of the lent tables: whether sizes and tables fit, nodes in use, link words read, the order of nodes, the swap.
+// A word past the end of a table reads as 0, and writing it changes nothing. Rests on the place table's words.
+ghost use mathlib.Core.Path.{_≡_};
+ghost use lib.ListN.{getD, set};
+ghost use Rattle.table.specs.Words.{memory, targetOf, isMarked, rank, rankOf};
+ghost use Rattle.table.specs.Events.{sizesFit, tablesFit};
+ghost use Rattle.words.specs.Lent.{usedBelow, orderOf, swapped, swapOf};
+use record::Address;
+use record::Node;
+
+// The stated sizes, and the count of nodes given out.
+pub struct Sizes {
+    pub nodes: u32,
+    pub processes: u32,
+    pub count: u32,
+}
+
+// How a node stands to an address.
+pub struct Order {
+    pub below: bool,
+    pub equal: bool,
+}
+
+// Whether the sizes are within the limits.
+pub fn sizes_fit(nodes: u32, processes: u32) -> bool
+    ensures { λ r. ⌜ r ≡ sizesFit nodes processes ⌝ }
+{
+    (2 <= nodes) & (nodes <= 4096) & (1 <= processes) & (processes <= 64)
+}
+
+// Whether they are, and the lent tables long enough for them, and the count within the nodes.
+pub fn tables_fit(addresses: &[u32], links: &[u32], deleters: &[u32], sizes: Sizes) -> bool
+    ensures { λ r. ⌜ r ≡ tablesFit (sizes .nodes) (sizes .processes) (memory (now (addresses .entry)) (now (links .entry)) (now (deleters .entry)) (sizes .count)) ⌝ }
+{
+    let nodes = sizes.nodes as usize;
+    sizes_fit(sizes.nodes, sizes.processes)
+        & (nodes <= addresses.len())
+        & (nodes <= links.len())
+        & (nodes <= deleters.len())
+        & (2 <= sizes.count)
+        & (sizes.count <= sizes.nodes)
+}
+
+// Whether a node was given out.
+pub fn in_use(n: Node, count: u32) -> bool
+    ensures { λ r. ⌜ r ≡ usedBelow count n ⌝ }
+{
+    n.0 < count
+}
+
+// The target of a link word.
+pub fn target_of(word: u32) -> Node
+    ensures { λ r. ⌜ r ≡ targetOf word ⌝ }
+{
+    Node(word / 2)
+}
+
+// The mark of a link word.
+pub fn is_marked(word: u32) -> bool
+    ensures { λ r. ⌜ r ≡ isMarked word ⌝ }
+{
+    word % 2 == 1
+}
+
+// A node's word of a lent table.
+pub fn word_at(words: &[u32], n: Node) -> u32
+    ensures { λ r. ⌜ r ≡ getD (now (words .entry)) (n .0) 0 ⌝ }
+{
+    let at = n.0 as usize;
+    if at < words.len() {
+        return words[at];
+    }
+    0
+}
+
+// Where an address sorts: above head, below tail.
+fn address_rank(address: Address) -> u64
+    ensures { λ r. ⌜ r ≡ rankOf address ⌝ }
+{
+    address.0 as u64 + 1
+}
+
+// Where a node sorts: head below and tail above every address.
+pub fn rank_of(addresses: &[u32], n: Node) -> u64
+    ensures { λ r. ⌜ r ≡ rank (now (addresses .entry)) n ⌝ }
+{
+    if n.0 == 0 {
+        return 0;
+    }
+    if n.0 == 1 {
+        return 4294967297;
+    }
+    address_rank(Address(word_at(addresses, n)))
+}
+
+// How a node stands to an address.
+pub fn compare(addresses: &[u32], n: Node, address: Address) -> Order
+    ensures { λ r. ⌜ r ≡ orderOf (now (addresses .entry)) n address ⌝ }
+{
+    let node_rank = rank_of(addresses, n);
+    let rank = address_rank(address);
+    Order {
+        below: node_rank < rank,
+        equal: node_rank == rank,
+    }
+}
+
+// Writes a node's word of a lent table.
+pub fn write(words: &mut [u32], n: Node, word: u32)
+    ensures { λ _. ⌜ now (words .exit) ≡ set (now (words .entry)) (n .0) word ⌝ }
+{
+    let at = n.0 as usize;
+    if at < words.len() {
+        words[at] = word;
+    }
+}
+
+// Compares the whole word and writes only if equal; whether it wrote.
+pub fn swap(words: &mut [u32], n: Node, expected: u32, new: u32) -> bool
+    ensures { λ r. ⌜ swapped (now (words .exit)) r ≡ swapOf (now (words .entry)) n expected new ⌝ }
+{
+    let found = word_at(words, n);
+    if found == expected {
+        write(words, n, new);
+        return true;
+    }
+    false
+}
