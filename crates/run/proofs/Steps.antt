@@ -17,7 +17,7 @@ use Rattle.record.specs.declared.Address.{Address}
 use Rattle.record.specs.declared.Event.{Event}
 use Rattle.record.specs.declared.Outcome.the-variants as outcome
 use Rattle.table.specs.Words.{Memory, memory, linkAt, addressAt, targetOf}
-use Rattle.table.specs.Events.{State, Acted, act, refused, sizesFit, tablesFit, event, stored, recordIn, Leaves}
+use Rattle.table.specs.Events.{State, Acted, act, acted, sizesFit, tablesFit, event, stored, recordIn, Leaves}
 use Rattle.table.specs.Chain.{goesOn}
 use Rattle.list.specs.Acting.{Left, actOn}
 use Rattle.schedule.specs.declared.Cursor.{Cursor}
@@ -61,7 +61,9 @@ module _ (σ : State) (e : Event) where
   at p = stored σ (process p) (acts p)
 
   -- a refusal leaves everything, at whatever place
-  refused-stays : (p number : ℕ) → stored σ (process p) (refused (σ .memory) (recordIn σ (process p)) number) ≡ record { after = σ; outcome = outcome.Refused number }
+  refused-stays : (p number : ℕ) →
+      stored σ (process p) (acted (σ .memory) (recordIn σ (process p)) (outcome.Refused number)) ≡
+      record { after = σ; outcome = outcome.Refused number }
   unfolding stored recordIn
   refused-stays p number = rw (set-getD (σ .row) p freshRecord)
 
