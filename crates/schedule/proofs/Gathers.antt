@@ -12,7 +12,7 @@ use lib.Seq.{drop-cons, take-suc-set, set-split, getD-set-same, getD-set-other, 
 use Rattle.schedule.specs.declared.NumberRead.{NumberRead}
 use Rattle.schedule.specs.declared.NumberRead.the-variants.{Got, Refused}
 use Rattle.schedule.specs.Numbers.{Read, got, stops, _then_, lowest, moreGroups, readNumber}
-use Rattle.schedule.specs.Inside.Gathering.{Groups, summed, judged}
+use Rattle.schedule.specs.Inside.Gathering.{Groups, summed, summedWith, judged}
 use Rattle.schedule.specs.Cursors.{placeIn, numberAt}
 
 -- ---- what is left to read
@@ -114,9 +114,7 @@ fifth-group groups (suc (suc (suc zero))) b few five zeros =
 fifth-group groups (suc (suc (suc (suc zero)))) b few five zeros = rw (getD-set-same groups 4 b 0 (omega arith))
 fifth-group groups (suc (suc (suc (suc (suc i))))) b few five zeros = absurd (omega arith)
 
-pub summed-five : (groups : List ℕ) → length groups ≡ 5
-    → summed groups
-    ≡ getD groups 0 0 + 128 * (getD groups 1 0 + 128 * (getD groups 2 0 + 128 * (getD groups 3 0 + 128 * getD groups 4 0)))
+pub summed-five : (groups : List ℕ) → length groups ≡ 5 → summed groups ≡ summedWith groups (getD groups 4 0)
 summed-five (a ∷ b ∷ c ∷ d ∷ e ∷ []) h = omega arith
 summed-five [] h = absurd (omega arith)
 summed-five (a ∷ []) h = absurd (omega arith)

@@ -2,9 +2,8 @@
 use crate::NumberRead;
 ghost use mathlib.Core.Path.{_≡_};
 ghost use Prim.Native.Nat.{_+_, _*_, _<_};
-ghost use lib.ListN.{getD};
 ghost use Rattle.schedule.specs.Cursors.{numberAt};
-ghost use Rattle.schedule.specs.Inside.Gathering.{Groups, summed, judged};
+ghost use Rattle.schedule.specs.Inside.Gathering.{Groups, summedWith, judged};
 
 // A group before the rest of its number.
 fn lowest(group: u8, rest: u32) -> u32
@@ -14,13 +13,13 @@ fn lowest(group: u8, rest: u32) -> u32
     group as u32 + 128 * rest
 }
 
-// The groups' number.
-fn sum(groups: [u8; 5]) -> u32
+// The number of the first four groups and a fifth.
+fn sum(groups: [u8; 5], fifth: u8) -> u32
     requires { ⌜ Groups groups ⌝ }
-    requires { ⌜ getD groups 4 0 < 16 ⌝ }
-    ensures { λ r. ⌜ r ≡ summed groups ⌝ }
+    requires { ⌜ fifth < 16 ⌝ }
+    ensures { λ r. ⌜ r ≡ summedWith groups fifth ⌝ }
 {
-    let rest = lowest(groups[3], groups[4] as u32);
+    let rest = lowest(groups[3], fifth as u32);
     let rest = lowest(groups[2], rest);
     let rest = lowest(groups[1], rest);
     lowest(groups[0], rest)
@@ -35,10 +34,11 @@ fn judge(groups: [u8; 5], last: usize, next: usize) -> NumberRead
     if 0 < last && groups[last] == 0 {
         return NumberRead::Refused(6);
     }
-    if 15 < groups[4] {
+    let fifth = groups[4];
+    if 15 < fifth {
         return NumberRead::Refused(6);
     }
-    let number = sum(groups);
+    let number = sum(groups, fifth);
     NumberRead::Got(number, next)
 }
 

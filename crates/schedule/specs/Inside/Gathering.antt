@@ -16,6 +16,11 @@ abbrev pub summed : List ℕ → ℕ
 summed [] = 0
 summed (group ∷ more) = group + 128 * summed more
 
+-- the number that the first four groups make with a fifth
+abbrev pub summedWith : List ℕ → (fifth : ℕ) → ℕ
+summedWith groups fifth =
+    getD groups 0 0 + 128 * (getD groups 1 0 + 128 * (getD groups 2 0 + 128 * (getD groups 3 0 + 128 * fifth)))
+
 -- groups with the last at a place, and zeros behind it
 unfoldable pub judged : List ℕ → (last next : ℕ) → NumberRead
 judged groups last next =

@@ -1,57 +1,48 @@
--- Five groups of seven bits, the fifth below 16, make a number of 32 bits, summed from the highest down.
+-- Four groups of seven bits and a fifth below 16 make a number of 32 bits, summed from the highest down.
 use native.Mathlib.Omega.{arith}
 use borrow.Author.Needs.{needs}
-use Rattle.schedule.proofs.Gathers.{summed-five}
 use Rattle.schedule.proofs.numbers.sum.Statement.{statement}
 use Rattle.schedule.proofs.numbers.sum.Tie as tie
 
 array-read-lowest : tie.Need-array-read-lowest
 array-read-lowest c = search needs
 
-array-read-lowest-2 : tie.Need-array-read-lowest-2
-array-read-lowest-2 c = search needs
-
-cast-lowest : tie.Need-cast-lowest
-cast-lowest c = search needs
-
 lowest-requires : tie.Need-lowest-requires
 lowest-requires c κs = omega (arith, c .pre .0 3)
 
-array-read-lowest-3 : tie.Need-array-read-lowest-3
-array-read-lowest-3 c = search needs
+array-read-lowest-2 : tie.Need-array-read-lowest-2
+array-read-lowest-2 c = search needs
 
 lowest-requires-2 : tie.Need-lowest-requires-2
 lowest-requires-2 c κs = omega (arith, c .before .pre .0 2, c .before .pre .0 3)
 
-array-read-lowest-4 : tie.Need-array-read-lowest-4
-array-read-lowest-4 c = search needs
+array-read-lowest-3 : tie.Need-array-read-lowest-3
+array-read-lowest-3 c = search needs
 
 lowest-requires-3 : tie.Need-lowest-requires-3
 lowest-requires-3 c κs =
     let p = c .before .before .pre .0 in omega (arith, p 1, p 2, p 3)
 
-array-read-lowest-5 : tie.Need-array-read-lowest-5
-array-read-lowest-5 c = search needs
+array-read-lowest-4 : tie.Need-array-read-lowest-4
+array-read-lowest-4 c = search needs
 
 lowest-requires-4 : tie.Need-lowest-requires-4
 lowest-requires-4 c κs =
     let p = c .before .before .before .pre .0 in omega (arith, p 0, p 1, p 2, p 3)
 
 returns : tie.Need-returns
-returns c = omega (arith, summed-five (c .before .before .before .before .args .t1) (omega arith))
+returns c = search needs
 
 pub sum-spec : {M : Type 1} → statement M
 sum-spec =
     tie.close
     (tie.spec
     array-read-lowest
-    array-read-lowest-2
-    cast-lowest
     lowest-requires
-    array-read-lowest-3
+    array-read-lowest-2
     lowest-requires-2
-    array-read-lowest-4
+    array-read-lowest-3
     lowest-requires-3
-    array-read-lowest-5
+    array-read-lowest-4
     lowest-requires-4
     returns)
