@@ -96,15 +96,19 @@ module _ (file : List ℕ) (p : Process) (at : ℕ) where
 
     pub rest-request : kind ≤ 2 → requestAt file kind p at ≡ restAt file kind p at
     unfolding requestAt restAt readRest
-    rest-request h = rw (le-leb kind 2 h)
+    rest-request h = rw (le-ltb 6 kind (omega arith), le-leb kind 2 h)
 
     pub rest-move : 2 < kind → kind ≤ 5 → at ≤ length file → event.Got (move kind p) (cursorAt at) ≡ restAt file kind p at
     unfolding restAt readRest
-    rest-move h k inside = rw (lt-leb kind 2 h, le-leb kind 5 k, place-of-drop file at inside)
+    rest-move h k inside = rw (le-ltb 6 kind (omega arith), lt-leb kind 2 h, le-leb kind 5 k, place-of-drop file at inside)
 
-    pub rest-burst : 5 < kind → burstAt file p at ≡ restAt file kind p at
+    pub rest-burst : 5 < kind → kind ≤ 6 → burstAt file p at ≡ restAt file kind p at
     unfolding burstAt restAt readRest
-    rest-burst h = rw (lt-leb kind 2 (omega arith), lt-leb kind 5 h)
+    rest-burst h k = rw (le-ltb 6 kind k, lt-leb kind 2 (omega arith), lt-leb kind 5 h)
+
+    pub rest-refused : 6 < kind → event.Refused 5 ≡ restAt file kind p at
+    unfolding restAt
+    rest-refused h = rw (lt-ltb 6 kind h)
 
 -- ---- an event
 
@@ -118,17 +122,16 @@ module _ (file : List ℕ) (at : ℕ) where
     unfolding itemAt readItem _then_
     kind-above h = rw (got-number file at kind next first .reads, lt-ltb 6 kind h)
 
-    module _ (small : kind ≤ 6) where
-      pub process-refused : (n : ℕ) → numberAt file next ≡ number.Refused n → event.Refused n ≡ itemAt file at
-      unfolding itemAt readItem _then_
-      process-refused n e =
-          rw (got-number file at kind next first .reads, le-ltb 6 kind small, refused-number file next n e)
+    pub process-refused : kind ≤ 6 → (n : ℕ) → numberAt file next ≡ number.Refused n → event.Refused n ≡ itemAt file at
+    unfolding itemAt readItem _then_
+    process-refused h n e =
+        rw (got-number file at kind next first .reads, le-ltb 6 kind h, refused-number file next n e)
 
-      pub process-read : (p after : ℕ) → numberAt file next ≡ number.Got p after
-          → restAt file kind (process p) after ≡ itemAt file at
-      unfolding itemAt readItem restAt _then_
-      process-read p after e =
-          rw (got-number file at kind next first .reads, le-ltb 6 kind small, got-number file next p after e .reads)
+    pub process-read : (p after : ℕ) → numberAt file next ≡ number.Got p after
+        → restAt file kind (process p) after ≡ itemAt file at
+    unfolding itemAt readItem restAt _then_
+    process-read p after e =
+        rw (got-number file at kind next first .reads, got-number file next p after e .reads)
 
 abbrev nextFrom : Read Item → NextItem
 nextFrom r = elim r [ got i left ↦ item i left | stops n ↦ refuses n ]

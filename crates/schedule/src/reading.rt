@@ -130,7 +130,7 @@ fn read_request(bytes: &[u8], kind: u32, process: Process, at: usize) -> EventRe
     }
 }
 
-// An event, its kind and process read.
+// An event, its kind and process read: the kind says what follows, and above 6 it is refused.
 fn read_rest(bytes: &[u8], kind: u32, process: Process, at: usize) -> EventRead
     requires { ⌜ at ≤ length (now bytes) ⌝ }
     ensures { λ r. ⌜ r ≡ restAt (now (bytes .entry)) kind process at ⌝ }
@@ -143,7 +143,10 @@ fn read_rest(bytes: &[u8], kind: u32, process: Process, at: usize) -> EventRead
         let after = cursor_at(at);
         return EventRead::Got(event, after);
     }
-    read_burst(bytes, process, at)
+    if kind <= 6 {
+        return read_burst(bytes, process, at);
+    }
+    EventRead::Refused(5)
 }
 
 // An event that stands at a place: its kind is judged before its process is read.

@@ -37,7 +37,7 @@ returns-2 c =
     let two = c .before .before .before .before in
     let first = two .before .before .before in
     c .read-rest .ensures
-    ∙ process-read _ _ _ _ (sym (first .before .before .read-number .ensures) ∙ first .first .given .1) (omega arith) _ _
+    ∙ process-read _ _ _ _ (sym (first .before .before .read-number .ensures) ∙ first .first .given .1) _ _
     (sym (two .read-number2 .ensures) ∙ c .before .before .second .given .1)
 
 returns-3 : tie.Need-returns-3

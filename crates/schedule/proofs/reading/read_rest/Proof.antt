@@ -2,7 +2,7 @@
 use mathlib.Core.Path.{_∙_}
 use native.Mathlib.Omega.{arith}
 use borrow.Author.Needs.{needs}
-use Rattle.schedule.proofs.WaysOut.{rest-request, rest-move, rest-burst}
+use Rattle.schedule.proofs.WaysOut.{rest-request, rest-move, rest-burst, rest-refused}
 use Rattle.schedule.proofs.reading.read_rest.Statement.{statement}
 use Rattle.schedule.proofs.reading.read_rest.Tie as tie
 
@@ -25,7 +25,10 @@ read-burst-requires : tie.Need-read-burst-requires
 read-burst-requires c κs = search needs
 
 returns-3 : tie.Need-returns-3
-returns-3 c = c .read-burst .ensures ∙ rest-burst _ _ _ _ (omega arith)
+returns-3 c = c .read-burst .ensures ∙ rest-burst _ _ _ _ (omega arith) (omega arith)
+
+returns-4 : tie.Need-returns-4
+returns-4 c = rest-refused _ _ _ _ (omega arith)
 
 pub read-rest-spec : {M : Type 1} → statement M
 read-rest-spec =
@@ -37,4 +40,5 @@ read-rest-spec =
     cursor-at-requires
     returns-2
     read-burst-requires
-    returns-3)
+    returns-3
+    returns-4)
