@@ -17,9 +17,6 @@ module _ (x : Numbers) where
   pub all-some : 1 ≤ length (bytesOf x)
   all-some = omega (arith, all-size, number-size (x .first))
 
-  pub second-fits : length (numberBytes (x .second)) ≤ length (tailBytes x)
-  second-fits = simp length-append (omega arith)
-
   pub tail-of-two : x .three ≡ false → tailBytes x ≡ numberBytes (x .second)
   tail-of-two e = rw e (append-nil (numberBytes (x .second)))
 

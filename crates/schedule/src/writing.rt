@@ -6,12 +6,12 @@ use record::Address;
 use record::Event;
 use record::Process;
 ghost use mathlib.Core.Path.{_≡_};
-ghost use Prim.Native.Nat.{_-_, _≤_, min};
+ghost use Prim.Native.Nat.{_-_, min};
 ghost use lib.ListN.{length};
 ghost use Rattle.schedule.specs.Numbers.{numberBytes};
 ghost use Rattle.schedule.specs.Encoding.{eventBytes};
-ghost use Rattle.schedule.specs.Writing.{laid, put, answered, writtenHeader, writtenEvent};
-ghost use Rattle.schedule.specs.Inside.Laying.{two, three, tailBytes, bytesOf};
+ghost use Rattle.schedule.specs.Writing.{put, answered, writtenHeader, writtenEvent};
+ghost use Rattle.schedule.specs.Inside.Laying.{two, three, tailBytes, bytesOf, fitted, allOrNone, putInRest};
 
 // The numbers that a header or an event is written as: two, or three.
 struct Numbers {
@@ -47,42 +47,52 @@ fn size(numbers: Numbers) -> usize
     first + second
 }
 
-// The bytes left from a place on: none past the output, and none past 65,536.
-fn room(length: usize, at: usize) -> usize
-    ensures { λ r. ⌜ r ≡ min length 65536 - at ⌝ }
+// The bytes of the rest of the output that count from a place on: none past 65,536.
+fn room(rest: usize, at: usize) -> usize
+    ensures { λ r. ⌜ r ≡ min rest (65536 - at) ⌝ }
 {
-    if length <= at {
-        return 0;
-    }
     if 65536 <= at {
         return 0;
     }
-    if length < 65536 {
-        return length - at;
+    let limit = 65536 - at;
+    if rest < limit {
+        return rest;
     }
-    65536 - at
+    limit
 }
 
-// The number writer: puts a number at the start of what it is lent, and answers how many bytes.
+// How many bytes go out: all that are needed, or none.
+fn all_or_none(needed: usize, left: usize) -> usize
+    ensures { λ r. ⌜ r ≡ allOrNone needed left ⌝ }
+{
+    if left < needed {
+        return 0;
+    }
+    needed
+}
+
+// The number writer: puts a number at the start of what it is lent, as far as that goes, and answers how many bytes.
 fn put_number(out: &mut [u8], number: u32) -> usize
-    requires { ⌜ length (numberBytes number) ≤ length (now out) ⌝ }
-    ensures { λ r. ⌜ (now (out .exit) ≡ laid (numberBytes number) (now (out .entry)) 0) × (r ≡ length (numberBytes number)) ⌝ }
+    ensures { λ r. ⌜ now (out .exit) ≡ fitted (numberBytes number) (now (out .entry)) ⌝ }
+    ensures { λ r. ⌜ r ≡ min (length (numberBytes number)) (length (now (out .entry))) ⌝ }
 {
     let mut rest = number;
     let mut at: usize = 0;
-    while 128 <= rest {
+    while at < out.len() {
+        if rest < 128 {
+            out[at] = rest as u8;
+            return at + 1;
+        }
         out[at] = (128 + rest % 128) as u8;
         rest = rest / 128;
         at += 1;
     }
-    out[at] = rest as u8;
-    at + 1
+    at
 }
 
 // The second number, and the third where there is one.
 fn put_tail(out: &mut [u8], numbers: Numbers)
-    requires { ⌜ length (tailBytes numbers) ≤ length (now out) ⌝ }
-    ensures { λ _. ⌜ now (out .exit) ≡ laid (tailBytes numbers) (now (out .entry)) 0 ⌝ }
+    ensures { λ _. ⌜ now (out .exit) ≡ fitted (tailBytes numbers) (now (out .entry)) ⌝ }
 {
     let at = put_number(out, numbers.second);
     if numbers.three {
@@ -91,26 +101,36 @@ fn put_tail(out: &mut [u8], numbers: Numbers)
     }
 }
 
-// The event writer: puts the numbers at the start of what it is lent.
+// The numbers at the start of what is lent, as far as that goes.
 fn put_numbers(out: &mut [u8], numbers: Numbers)
-    requires { ⌜ length (bytesOf numbers) ≤ length (now out) ⌝ }
-    ensures { λ _. ⌜ now (out .exit) ≡ laid (bytesOf numbers) (now (out .entry)) 0 ⌝ }
+    ensures { λ _. ⌜ now (out .exit) ≡ fitted (bytesOf numbers) (now (out .entry)) ⌝ }
 {
     let at = put_number(out, numbers.first);
     put_tail(&mut out[at..], numbers);
 }
 
-// Writes the numbers into the rest of the output.
+// The event writer: puts the numbers at the start of the rest of the output, all or none of their bytes.
+fn put_event(rest: &mut [u8], at: usize, numbers: Numbers) -> Written
+    ensures { λ r. ⌜ answered (now (rest .exit)) at r ≡ putInRest (bytesOf numbers) (now (rest .entry)) at ⌝ }
+{
+    let needed = size(numbers);
+    let left = room(rest.len(), at);
+    let count = all_or_none(needed, left);
+    put_numbers(&mut rest[..count], numbers);
+    if count < needed {
+        return Written::Refused(9);
+    }
+    Written::Next(at + needed)
+}
+
+// Writes the numbers into the rest of the output: a start past the output leaves none.
 fn write_numbers(out: &mut [u8], at: usize, numbers: Numbers) -> Written
     ensures { λ r. ⌜ answered (now (out .exit)) at r ≡ put (bytesOf numbers) (now (out .entry)) at ⌝ }
 {
-    let needed = size(numbers);
-    let left = room(out.len(), at);
-    if left < needed {
+    if out.len() < at {
         return Written::Refused(9);
     }
-    put_numbers(&mut out[at..], numbers);
-    Written::Next(at + needed)
+    put_event(&mut out[at..], at, numbers)
 }
 
 // Two numbers, as of a header.

@@ -15,7 +15,9 @@ array-read-if2 c = search needs
 
 returns : tie.Need-returns
 unfolding judged
-returns c = search (needs, conds)
+returns c =
+    let another : 0 < c .before .before .args .last = omega arith in
+    search (needs, conds)
 
 array-read-fifth : tie.Need-array-read-fifth
 array-read-fifth c = search needs

@@ -1,30 +1,25 @@
--- The first number, then the others in the rest (`laid-then`).
-use native.Mathlib.Omega.{arith}
-use borrow.Author.Needs.{needs}
+-- The first number, then the others in the rest (`fitted-then`).
 use Rattle.schedule.specs.Numbers.{numberBytes}
 use Rattle.schedule.specs.Inside.Laying.{tailBytes}
-use Rattle.schedule.proofs.Parts.{all-size}
-use Rattle.schedule.proofs.Lays.{rest-length, laid-then}
+use Rattle.schedule.proofs.Lays.{fitted-then}
+use borrow.Author.Needs.{needs}
 use Rattle.schedule.proofs.writing.put_numbers.Statement.{statement}
 use Rattle.schedule.proofs.writing.put_numbers.Tie as tie
 
 put-number-requires : tie.Need-put-number-requires
-put-number-requires c κs = omega (arith, all-size (c .before .before .args .numbers))
+put-number-requires c κs = search needs
 
 sub-put-tail : tie.Need-sub-put-tail
-sub-put-tail c = omega (arith, all-size (c .before .before .before .before .before .args .numbers))
+sub-put-tail c = search needs
 
 part-put-tail-start : tie.Need-part-put-tail-start
-part-put-tail-start c = omega (arith, all-size (c .before .before .before .before .before .args .numbers))
+part-put-tail-start c = search needs
 
 part-put-tail-end : tie.Need-part-put-tail-end
 part-put-tail-end c = search needs
 
 put-tail-requires : tie.Need-put-tail-requires
-put-tail-requires c κs =
-    let p = c .before .before .before in
-    omega
-    (arith, all-size (p .before .before .before .args .numbers), rest-length (p .put-number .last .0) (p .put-number .result))
+put-tail-requires c κs = search needs
 
 same-length : tie.Need-same-length
 same-length c = search needs
@@ -33,7 +28,7 @@ returns : tie.Need-returns
 returns c =
     let p = c .before .before .before .before .before .before in
     let a = p .before .before .before .args in
-    laid-then (numberBytes (a .numbers .first)) (tailBytes (a .numbers)) (a .out .now) _ _ _ (p .put-number .ensures .0)
+    fitted-then (numberBytes (a .numbers .first)) (tailBytes (a .numbers)) (a .out .now) _ _ _ (p .put-number .ensures .0)
     (p .put-number .ensures .1) (c .before .before .put-tail .ensures)
 
 pub put-numbers-spec : {M : Type 1} → statement M

@@ -1,36 +1,29 @@
--- The second number, then the third in the rest (`laid-then`).
+-- The second number, then the third in the rest (`fitted-then`).
 use Prim.Native.Nat.{ℕ}
 use mathlib.Core.Path.{sym, ap, _∙_}
 use mathlib.Core.List.{List}
-use native.Mathlib.Omega.{arith}
-use borrow.Author.Needs.{needs}
 use Rattle.schedule.specs.Numbers.{numberBytes}
-use Rattle.schedule.specs.Writing.{laid}
-use Rattle.schedule.proofs.Parts.{second-fits, tail-of-two, tail-of-three, tail-size-three}
-use Rattle.schedule.proofs.Lays.{rest-length, laid-then}
+use Rattle.schedule.specs.Inside.Laying.{fitted}
+use Rattle.schedule.proofs.Parts.{tail-of-two, tail-of-three}
+use Rattle.schedule.proofs.Lays.{fitted-then}
+use borrow.Author.Needs.{needs}
 use Rattle.schedule.proofs.writing.put_tail.Statement.{statement}
 use Rattle.schedule.proofs.writing.put_tail.Tie as tie
 
 put-number-requires : tie.Need-put-number-requires
-put-number-requires c κs = omega (arith, second-fits (c .before .before .args .numbers))
+put-number-requires c κs = search needs
 
 sub-put-number : tie.Need-sub-put-number
-sub-put-number c = omega (arith, second-fits (c .before .before .before .before .before .before .args .numbers))
+sub-put-number c = search needs
 
 part-put-number-start : tie.Need-part-put-number-start
-part-put-number-start c = omega (arith, second-fits (c .before .before .before .before .before .before .args .numbers))
+part-put-number-start c = search needs
 
 part-put-number-end : tie.Need-part-put-number-end
 part-put-number-end c = search needs
 
 put-number-requires-2 : tie.Need-put-number-requires-2
-put-number-requires-2 c κs =
-    let p = c .before .before .before .before in
-    omega (
-      arith,
-      tail-size-three (p .before .before .before .args .numbers) (c .before .if1 .taken),
-      rest-length (p .put-number .last .0) (p .put-number .result),
-    )
+put-number-requires-2 c κs = search needs
 
 same-length : tie.Need-same-length
 same-length c = search needs
@@ -39,9 +32,9 @@ returns : tie.Need-returns
 returns c =
     let p = c .before .before .before .before .before .before .before in
     let a = p .before .before .before .args in
-    laid-then (numberBytes (a .numbers .second)) (numberBytes (a .numbers .third)) (a .out .now) _ _ _
+    fitted-then (numberBytes (a .numbers .second)) (numberBytes (a .numbers .third)) (a .out .now) _ _ _
     (p .put-number .ensures .0) (p .put-number .ensures .1) (c .before .before .put-number2 .ensures .0)
-    ∙ ap (λ (l : List ℕ). laid l (a .out .now) 0)
+    ∙ ap (λ (l : List ℕ). fitted l (a .out .now))
     (sym (tail-of-three (a .numbers) (c .before .before .before .before .if1 .taken)))
 
 same-length-2 : tie.Need-same-length-2
@@ -51,7 +44,7 @@ returns-2 : tie.Need-returns-2
 returns-2 c =
     let a = c .before .before .before .before .before .before .args in
     c .before .before .before .put-number .ensures .0
-    ∙ ap (λ (l : List ℕ). laid l (a .out .now) 0) (sym (tail-of-two (a .numbers) (c .if1 .left)))
+    ∙ ap (λ (l : List ℕ). fitted l (a .out .now)) (sym (tail-of-two (a .numbers) (c .if1 .left)))
 
 pub put-tail-spec : {M : Type 1} → statement M
 put-tail-spec =

@@ -1,0 +1,71 @@
+-- All the bytes go out, or none; what is lent is as much (`rest-fits`, `rest-lacks`).
+use native.Mathlib.Omega.{arith}
+use lib.ListN.{length-take, take-append-drop}
+use Rattle.schedule.proofs.Parts.{all-some}
+use Rattle.schedule.proofs.Lays.{within-room, none-go-out, all-go-out, rest-fits, rest-lacks}
+use borrow.Author.Needs.{needs}
+use Rattle.schedule.proofs.writing.put_event.Statement.{statement}
+use Rattle.schedule.proofs.writing.put_event.Tie as tie
+
+size-requires : tie.Need-size-requires
+size-requires c κs = search needs
+
+room-requires : tie.Need-room-requires
+room-requires c κs = search needs
+
+all-or-none-requires : tie.Need-all-or-none-requires
+all-or-none-requires c κs = search needs
+
+slice-relend-prefix-put-numbers : tie.Need-slice-relend-prefix-put-numbers
+slice-relend-prefix-put-numbers c = omega (arith, within-room _ _ _ (c .all-or-none .ensures))
+
+slice-aggregate-put-numbers : tie.Need-slice-aggregate-put-numbers
+slice-aggregate-put-numbers c = simp length-take (omega (arith, within-room _ _ _ (c .before .all-or-none .ensures)))
+
+put-numbers-requires : tie.Need-put-numbers-requires
+put-numbers-requires c κs = search needs
+
+same-length : tie.Need-same-length
+same-length c = search needs
+
+returns : tie.Need-returns
+returns c =
+    let out = c .before .before .before in
+    let counted = out .before .before in
+    let none = none-go-out _ _ _ (counted .all-or-none .ensures) (omega arith) in
+    rest-lacks _ _ _ _ _ _ (out .put-numbers .ensures) (simp take-append-drop) (omega arith) (simp length-take (omega arith))
+
+add-t7 : tie.Need-add-t7
+add-t7 c =
+    let counted = c .before .before .before .before .before in
+    let some = all-some (counted .before .before .before .before .args .numbers) in
+    let all = all-go-out _ _ _ (counted .all-or-none .ensures) (omega arith) (omega arith) in
+    omega arith
+
+same-length-2 : tie.Need-same-length-2
+same-length-2 c = search needs
+
+returns-2 : tie.Need-returns-2
+returns-2 c =
+    let out = c .before .before .before in
+    let counted = out .before .before in
+    let some = all-some (counted .before .before .before .before .args .numbers) in
+    let all = all-go-out _ _ _ (counted .all-or-none .ensures) (omega arith) (omega arith) in
+    rw (counted .before .before .size .ensures)
+    (rest-fits _ _ _ _ _ _ (out .put-numbers .ensures) (simp take-append-drop) (omega arith) (simp length-take (omega arith)))
+
+pub put-event-spec : {M : Type 1} → statement M
+put-event-spec =
+    tie.close
+    (tie.spec
+    size-requires
+    room-requires
+    all-or-none-requires
+    slice-relend-prefix-put-numbers
+    slice-aggregate-put-numbers
+    put-numbers-requires
+    same-length
+    returns
+    add-t7
+    same-length-2
+    returns-2)
