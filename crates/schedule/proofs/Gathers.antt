@@ -9,11 +9,10 @@ use borrow.Author.Tests.{lt-ltb, le-ltb, le-leb, lt-leb, ltb-false}
 use lib.Dec.{leb, ltb, eqb}
 use lib.ListN.{length, take, drop, getD, set, length-set, length-drop, drop-of-length-le}
 use lib.Seq.{drop-cons, take-suc-set, set-split, getD-set-same, getD-set-other, getD-drop}
-use Rattle.schedule.specs.declared.NumberRead.{NumberRead}
 use Rattle.schedule.specs.declared.NumberRead.the-variants.{Got, Refused}
 use Rattle.schedule.specs.Numbers.{Read, got, stops, _then_, lowest, moreGroups, readNumber}
 use Rattle.schedule.specs.Inside.Gathering.{Groups, summed, summedWith, judged}
-use Rattle.schedule.specs.Cursors.{placeIn, numberAt}
+use Rattle.schedule.specs.Cursors.{placeIn, numberRead, numberAt}
 
 -- ---- what is left to read
 
@@ -123,22 +122,48 @@ summed-five (a ∷ b ∷ c ∷ []) h = absurd (omega arith)
 summed-five (a ∷ b ∷ c ∷ d ∷ []) h = absurd (omega arith)
 summed-five (a ∷ b ∷ c ∷ d ∷ e ∷ f ∷ groups) h = absurd (omega arith)
 
+-- ---- the groups judged
+
+-- no group of zero stands last after another
+abbrev pub NoZeroLast : List ℕ → (last : ℕ) → Type 0
+NoZeroLast groups last = (ltb 0 last && eqb (getD groups last 0) 0) ≡ false
+
+module _ (groups : List ℕ) (last : ℕ) where
+  pub only-group : last ≤ 0 → NoZeroLast groups last
+  only-group h = rw (le-ltb 0 last h)
+
+  pub last-not-zero : eqb (getD groups last 0) 0 ≡ false → NoZeroLast groups last
+  last-not-zero e = rw e (neither (ltb 0 last))
+    where
+      neither : (b : Bool) → (b && false) ≡ false
+      neither true = refl
+      neither false = refl
+
+module _ (groups : List ℕ) (last next : ℕ) where
+  pub zero-last : 0 < last → eqb (getD groups last 0) 0 ≡ true → Refused 6 ≡ judged groups last next
+  unfolding judged
+  zero-last h e = rw (lt-ltb 0 last h, e)
+
+  pub fifth-above : NoZeroLast groups last → 15 < getD groups 4 0 → Refused 6 ≡ judged groups last next
+  unfolding judged
+  fifth-above e h = rw (e, lt-ltb 15 (getD groups 4 0) h)
+
+  pub number-made : (n : ℕ) → NoZeroLast groups last → getD groups 4 0 ≤ 15 → n ≡ summed groups → Got n next ≡ judged groups last next
+  unfolding judged
+  number-made n e h made = rw (e, le-ltb 15 (getD groups 4 0) h, made)
+
 -- ---- the turns of the loop
 
--- what a read of a number gives, with its place in the file
-abbrev pub placed : List ℕ → Read ℕ → NumberRead
-placed file r = elim r [ got n left ↦ Got n (placeIn file left) | stops n ↦ Refused n ]
-
-pub number-is : (file : List ℕ) (at : ℕ) (r : Read ℕ) → r ≡ readNumber (drop at file) → placed file r ≡ numberAt file at
+pub number-is : (file : List ℕ) (at : ℕ) (r : Read ℕ) → r ≡ readNumber (drop at file) → numberRead (placeIn file) r ≡ numberAt file at
 unfolding numberAt
-number-is file at r e = ap (placed file) e
+number-is file at r e = ap (numberRead (placeIn file)) e
 
-placed-last : (file groups s : List ℕ) (n : ℕ) (none large : Bool)
-    → placed file (behind groups (cond none (stops 6) (cond large (stops 6) (got n s))))
-    ≡ cond none (Refused 6) (cond large (Refused 6) (Got (summed (groups ++ (n ∷ []))) (placeIn file s)))
-placed-last file groups s n true large = ap (placed file) (behind-stops groups 6)
-placed-last file groups s n false true = ap (placed file) (behind-stops groups 6)
-placed-last file groups s n false false = ap (placed file) (behind-got groups n s)
+read-last : (file groups s : List ℕ) (n : ℕ) (none large : Bool)
+    → numberRead (placeIn file) (behind groups (cond none (stops 6) (cond large (stops 6) (got n s))))
+    ≡ numberRead (λ left. placeIn file s) (cond none (stops 6) (cond large (stops 6) (got (summed (groups ++ (n ∷ []))) [])))
+read-last file groups s n true large = ap (numberRead (placeIn file)) (behind-stops groups 6)
+read-last file groups s n false true = ap (numberRead (placeIn file)) (behind-stops groups 6)
+read-last file groups s n false false = ap (numberRead (placeIn file)) (behind-got groups n s)
 
 module _ (bytes groups : List ℕ) (count next : ℕ) where
   abbrev left : Read ℕ
@@ -166,16 +191,16 @@ module _ (bytes groups : List ℕ) (count next : ℕ) where
         ∙ rw (add-one count, take-suc-set groups count (byte - 128) (omega arith)))
 
     -- the last group
-    pub ended : byte < 128 → ZerosFrom count groups → judged (set groups count byte) count (next + 1) ≡ placed bytes left
+    pub ended : byte < 128 → ZerosFrom count groups → judged (set groups count byte) count (next + 1) ≡ numberRead (placeIn bytes) left
     unfolding judged
     ended last zeros =
         let same : getD (set groups count byte) count 0 ≡ byte = getD-set-same groups count byte 0 (omega arith) in
         let large = fifth-group groups count byte few five zeros in
         let sum = summed-last groups count byte (omega arith) zeros in
         let place : next + 1 ≡ placeIn bytes (drop (next + 1) bytes) = omega (arith, length-drop (next + 1) bytes) in
-        (λ i. cond (ltb 0 count && eqb (same i) 0) (Refused 6) (cond (large i) (Refused 6) (Got (sum i) (place i))))
-        ∙ (sym (placed-last bytes (take count groups) (drop (next + 1) bytes) byte (ltb 0 count && eqb byte 0) (ltb 3 count && ltb 15 byte))
-        ∙ ap (λ (r : Read ℕ). placed bytes (behind (take count groups) r))
+        (λ i. numberRead (λ left. place i) (cond (ltb 0 count && eqb (same i) 0) (stops 6) (cond (large i) (stops 6) (got (sum i) []))))
+        ∙ (sym (read-last bytes (take count groups) (drop (next + 1) bytes) byte (ltb 0 count && eqb byte 0) (ltb 3 count && ltb 15 byte))
+        ∙ ap (λ (r : Read ℕ). numberRead (placeIn bytes) (behind (take count groups) r))
         (sym (next-byte ∙ (one-more count byte (drop (next + 1) bytes) few ∙ rw (lt-ltb byte 128 last)))))
 
 -- ---- what the loop keeps

@@ -10,7 +10,7 @@ use lib.Seq.{drop-drop}
 use Rattle.schedule.specs.declared.NumberRead.{NumberRead}
 use Rattle.schedule.specs.declared.NumberRead.the-variants.{Got, Refused}
 use Rattle.schedule.specs.Numbers.{Read, got, stops, _then_, lowest, moreGroups, readNumber}
-use Rattle.schedule.specs.Cursors.{placeIn, numberAt}
+use Rattle.schedule.specs.Cursors.{placeIn, numberRead, numberAt}
 
 -- the bytes left are those of the file from their place on, and fewer
 abbrev pub Ends : List ℕ → Read ℕ → Type 0
@@ -65,7 +65,7 @@ pub record GotAt (file : List ℕ) (at n next : ℕ) : Type 0 where
   pub inside : next ≤ length file
 
 by-read : (file : List ℕ) (at n next : ℕ) (r : Read ℕ) → Ends (drop at file) r → readNumber (drop at file) ≡ r
-    → (elim r [ got m left ↦ Got m (placeIn file left) | stops m ↦ Refused m ]) ≡ Got n next → GotAt file at n next
+    → numberRead (placeIn file) r ≡ Got n next → GotAt file at n next
 by-read file at n next (got m left) (shorter, same) e f =
     let value : m ≡ n = cc in
     let place : placeIn file left ≡ next = cc in
@@ -81,7 +81,7 @@ unfolding numberAt
 got-number file at n next e = by-read file at n next (readNumber (drop at file)) (ends-number (drop at file)) refl e
 
 by-stop : (file : List ℕ) (at n : ℕ) (r : Read ℕ) → readNumber (drop at file) ≡ r
-    → (elim r [ got m left ↦ Got m (placeIn file left) | stops m ↦ Refused m ]) ≡ Refused n → readNumber (drop at file) ≡ stops n
+    → numberRead (placeIn file) r ≡ Refused n → readNumber (drop at file) ≡ stops n
 by-stop file at n (got m left) e f = let z : _≡_ {A = ℕ} 0 1 = cc in absurd (omega arith)
 by-stop file at n (stops m) e f = cc
 

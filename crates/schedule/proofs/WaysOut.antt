@@ -23,22 +23,17 @@ use Rattle.schedule.specs.declared.EventRead.{EventRead}
 use Rattle.schedule.specs.declared.EventRead.the-variants as event
 use Rattle.schedule.specs.Numbers.{Read, got, stops, _then_, readNumber}
 use Rattle.schedule.specs.Encoding.{Item, single, burst}
-use Rattle.schedule.specs.Reading.{readHeader, request, move, readBurst, readRest, readItem, NextItem, end, item, refuses, nextItem}
-use Rattle.schedule.specs.Cursors.{cursorAt, placeIn, numberAt, headerAt, handsOut, eventAt}
+use Rattle.schedule.specs.Reading.{readHeader, request, move, readBurst, readRest, readItem, item, refuses, nextItem}
+use Rattle.schedule.specs.Cursors.{cursorIn, cursorAt, placeIn, numberAt, headerRead, headerAt, eventRead, eventAt}
 use Rattle.schedule.specs.Inside.Continuing.{sizedAt, readAs, burstOf, burstAt, requestAt, restAt, itemAt}
 use Rattle.schedule.proofs.Places.{GotAt, place-of-drop, got-number, refused-number}
 
 -- ---- the header
 
-abbrev headerFrom : List ℕ → Read Header → HeaderRead
-headerFrom file r =
-    elim r [ got h left ↦ header.Got h (cursorAt (placeIn file left)) | stops n ↦ header.Refused n ]
-
-sized : (fit : Bool) (file : List ℕ) (nodes processes next : ℕ) → next ≤ length file
-    → cond fit (header.Got (record { nodes = nodes; processes = processes }) (cursorAt next)) (header.Refused 7)
-    ≡ headerFrom file (cond fit (got (record { nodes = nodes; processes = processes }) (drop next file)) (stops 7))
-sized true file nodes processes next h = rw (place-of-drop file next h)
-sized false file nodes processes next h = refl
+sized : (fit : Bool) (file : List ℕ) (h : Header) (next : ℕ) → next ≤ length file
+    → headerRead (λ left. next) (cond fit (got h []) (stops 7)) ≡ headerRead (placeIn file) (cond fit (got h (drop next file)) (stops 7))
+sized true file h next inside = rw (place-of-drop file next inside)
+sized false file h next inside = refl
 
 module _ (file : List ℕ) (c : Cursor) where
   pub header-too-long : 65536 < length file → header.Refused 7 ≡ headerAt file c
@@ -62,13 +57,13 @@ module _ (file : List ℕ) (c : Cursor) where
       header-sized processes next e =
           let g = got-number file at processes next e in
           rw (le-ltb 65536 (length file) short, got-number file (c .at) nodes at first .reads, g .reads)
-          (sized (sizesFit nodes processes) file nodes processes next (g .inside))
+          (sized (sizesFit nodes processes) file _ next (g .inside))
 
 -- ---- what follows the process of an event
 
 module _ (file : List ℕ) (p : Process) (at : ℕ) where
   counted : (fits : Bool) (count next : ℕ) → next ≤ length file
-      → cond fits (event.Got (Step p) (record { at = next; process = p; left = count - 1 })) (event.Refused 5)
+      → eventRead (λ left. next) (cond fits (item (burst p count) []) (refuses 5))
       ≡ readAs file (cond fits (got (burst p count) (drop next file)) (stops 5))
   counted true count next h = rw (place-of-drop file next h)
   counted false count next h = refl
@@ -133,20 +128,9 @@ module _ (file : List ℕ) (at : ℕ) where
     process-read p after e =
         rw (got-number file at kind next first .reads, got-number file next p after e .reads)
 
-abbrev nextFrom : Read Item → NextItem
-nextFrom r = elim r [ got i left ↦ item i left | stops n ↦ refuses n ]
-
-abbrev eventFrom : List ℕ → NextItem → EventRead
-eventFrom file x =
-    elim x [ end ↦ event.End | item i left ↦ handsOut file i left | refuses n ↦ event.Refused n ]
-
-next-is : (file : List ℕ) (r : Read Item) → readAs file r ≡ eventFrom file (nextFrom r)
-next-is file (got i left) = refl
-next-is file (stops n) = refl
-
 module _ (file : List ℕ) (c : Cursor) where
   pub burst-goes-on : 0 < c .left
-      → event.Got (Step (c .process)) (record { at = c .at; process = c .process; left = c .left - 1 }) ≡ eventAt file c
+      → event.Got (Step (c .process)) (cursorIn (c .at) (c .process) (c .left - 1)) ≡ eventAt file c
   unfolding eventAt
   burst-goes-on h = rw (lt-ltb 0 (c .left) h)
 
@@ -157,4 +141,4 @@ module _ (file : List ℕ) (c : Cursor) where
 
     pub item-stands : c .at < length file → itemAt file (c .at) ≡ eventAt file c
     unfolding eventAt nextItem itemAt
-    item-stands h = rw (le-ltb 0 (c .left) none, drop-cons file (c .at) 0 h) (next-is file (readItem (getD file (c .at) 0 ∷ drop (suc (c .at)) file)))
+    item-stands h = rw (le-ltb 0 (c .left) none, drop-cons file (c .at) 0 h)

@@ -1,6 +1,6 @@
 -- Reading by a cursor: the header, and one event after another, a burst handed out as its steps. Rests on Reading.
 use mathlib.Core.Bool.{cond}
-use mathlib.Core.List.{List}
+use mathlib.Core.List.{List, []}
 use Prim.Native.Nat.{ℕ, _-_}
 use lib.Dec.{ltb}
 use lib.ListN.{length, drop}
@@ -20,9 +20,13 @@ use Rattle.schedule.specs.Numbers.{Read, got, stops, readNumber}
 use Rattle.schedule.specs.Encoding.{Item, single, burst}
 use Rattle.schedule.specs.Reading.{readHeader, NextItem, end, item, refuses, nextItem}
 
+-- at a place, in a burst of which so many steps are left
+abbrev pub cursorIn : (at : ℕ) → Process → (left : ℕ) → Cursor
+cursorIn at p left = record { at = at; process = p; left = left }
+
 -- at a place, outside a burst
 abbrev pub cursorAt : ℕ → Cursor
-cursorAt at = record { at = at; process = process 0; left = 0 }
+cursorAt at = cursorIn at (process 0) 0
 
 -- before the header
 abbrev pub start : Cursor
@@ -32,38 +36,38 @@ start = cursorAt 0
 abbrev pub placeIn : List ℕ → List ℕ → ℕ
 placeIn file left = length file - length left
 
--- the number at a place, with the place after it
-unfoldable pub numberAt : List ℕ → ℕ → NumberRead
-numberAt file at =
-    elim (readNumber (drop at file)) [ got n left ↦ number.Got n (placeIn file left) | stops n ↦ number.Refused n ]
+-- ---- the answers: "Where an answer is an enum, a definition sets out this paper's number and values for each of its cases."; here by what was
+-- read, and the place of the bytes left
 
--- the cursor before the bytes left of a file, in a burst of which so many steps are left
-abbrev pub cursorIn : List ℕ → List ℕ → Process → ℕ → Cursor
-cursorIn file left p more = record { at = placeIn file left; process = p; left = more }
+-- a number with the place after it, or the refusal's number
+abbrev pub numberRead : (place : List ℕ → ℕ) → Read ℕ → NumberRead
+numberRead place (got n left) = number.Got n (place left)
+numberRead place (stops n) = number.Refused n
+
+-- a header with the cursor after it, or the refusal's number
+abbrev pub headerRead : (place : List ℕ → ℕ) → Read Header → HeaderRead
+headerRead place (got h left) = header.Got h (cursorAt (place left))
+headerRead place (stops n) = header.Refused n
+
+-- the end, an event with the cursor after it, or the refusal's number; a burst is "read as that many kind 3 events": the first at once, the others
+-- from the cursor
+abbrev pub eventRead : (place : List ℕ → ℕ) → NextItem → EventRead
+eventRead place end = event.End
+eventRead place (item (single e) left) = event.Got e (cursorAt (place left))
+eventRead place (item (burst p count) left) = event.Got (Step p) (cursorIn (place left) p (count - 1))
+eventRead place (refuses n) = event.Refused n
+
+-- ---- at a place of a file
+
+unfoldable pub numberAt : List ℕ → ℕ → NumberRead
+numberAt file at = numberRead (placeIn file) (readNumber (drop at file))
 
 -- "For a file: 7 for length, header numbers, 7 for sizes"
 unfoldable pub headerAt : List ℕ → Cursor → HeaderRead
-headerAt file c =
-    cond (ltb 65536 (length file)) (header.Refused 7)
-    (elim (readHeader (drop (c .at) file)) [
-      | got h left ↦ header.Got h (cursorIn file left (process 0) 0)
-      | stops n ↦ header.Refused n
-    ])
+headerAt file c = headerRead (placeIn file) (cond (ltb 65536 (length file)) (stops 7) (readHeader (drop (c .at) file)))
 
--- "read as that many kind 3 events": the first step of a burst at once, the others from the cursor
-abbrev pub handsOut : List ℕ → Item → List ℕ → EventRead
-handsOut file i left =
-    elim i [
-      | single e ↦ event.Got e (cursorIn file left (process 0) 0)
-      | burst p count ↦ event.Got (Step p) (cursorIn file left p (count - 1))
-    ]
-
+-- in a burst, the steps left of it are read, and no byte
 unfoldable pub eventAt : List ℕ → Cursor → EventRead
 eventAt file c =
-    cond (ltb 0 (c .left))
-    (event.Got (Step (c .process)) (record { at = c .at; process = c .process; left = c .left - 1 }))
-    (elim (nextItem (drop (c .at) file)) [
-      | end ↦ event.End
-      | item i left ↦ handsOut file i left
-      | refuses n ↦ event.Refused n
-    ])
+    cond (ltb 0 (c .left)) (eventRead (λ left. c .at) (item (burst (c .process) (c .left)) []))
+    (eventRead (placeIn file) (nextItem (drop (c .at) file)))

@@ -67,9 +67,12 @@ pub data NextItem : Type 0 where
   item : Item → List ℕ → NextItem
   refuses : ℕ → NextItem
 
+abbrev pub standing : Read Item → NextItem
+standing r = elim r [ got i left ↦ item i left | stops n ↦ refuses n ]
+
 unfoldable pub nextItem : List ℕ → NextItem
 nextItem [] = end
-nextItem (b ∷ s) = elim (readItem (b ∷ s)) [ got i left ↦ item i left | stops n ↦ refuses n ]
+nextItem (b ∷ s) = standing (readItem (b ∷ s))
 
 -- "A file is accepted if it reads to its end without 4 to 7."; every item takes a byte, so that the length and one are turns enough
 unfoldable pub readItems : (turns : ℕ) → List ℕ → Reading

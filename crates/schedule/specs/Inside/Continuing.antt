@@ -1,36 +1,32 @@
 -- What the reader gives of a header or an event that is partly read. Rests on Cursors.
 use mathlib.Core.Bool.{cond, _&&_}
-use mathlib.Core.List.{List}
-use Prim.Native.Nat.{ℕ, _-_}
+use mathlib.Core.List.{List, []}
+use Prim.Native.Nat.{ℕ}
 use lib.Dec.{leb, ltb}
 use lib.ListN.{drop}
 use Rattle.record.specs.Record.{address}
 use Rattle.record.specs.declared.Process.{Process}
-use Rattle.record.specs.declared.Event.the-variants.{Step}
 use Rattle.table.specs.Events.{sizesFit}
 use Rattle.schedule.specs.declared.HeaderRead.{HeaderRead}
-use Rattle.schedule.specs.declared.HeaderRead.the-variants as header
 use Rattle.schedule.specs.declared.EventRead.{EventRead}
-use Rattle.schedule.specs.declared.EventRead.the-variants as event
 use Rattle.schedule.specs.Numbers.{Read, got, stops, _then_, readNumber}
-use Rattle.schedule.specs.Encoding.{Item, single}
-use Rattle.schedule.specs.Reading.{request, readBurst, readRest, readItem}
-use Rattle.schedule.specs.Cursors.{cursorAt, handsOut}
+use Rattle.schedule.specs.Encoding.{Item, single, burst}
+use Rattle.schedule.specs.Reading.{request, readBurst, readRest, readItem, item, refuses, standing}
+use Rattle.schedule.specs.Cursors.{placeIn, headerRead, eventRead}
 
--- the numbers of a header, read
+-- the numbers of a header, read, with the next place
 unfoldable pub sizedAt : (nodes processes next : ℕ) → HeaderRead
 sizedAt nodes processes next =
-    cond (sizesFit nodes processes) (header.Got (record { nodes = nodes; processes = processes }) (cursorAt next)) (header.Refused 7)
+    headerRead (λ left. next) (cond (sizesFit nodes processes) (got (record { nodes = nodes; processes = processes }) []) (stops 7))
+
+-- the count of a burst, read, with the next place
+unfoldable pub burstOf : Process → (count next : ℕ) → EventRead
+burstOf p count next =
+    eventRead (λ left. next) (cond (leb 1 count && leb count 255) (item (burst p count) []) (refuses 5))
 
 -- an item, read or refused
 abbrev pub readAs : List ℕ → Read Item → EventRead
-readAs file r = elim r [ got i left ↦ handsOut file i left | stops n ↦ event.Refused n ]
-
--- the count of a burst, read
-unfoldable pub burstOf : Process → (count next : ℕ) → EventRead
-burstOf p count next =
-    cond (leb 1 count && leb count 255)
-    (event.Got (Step p) (record { at = next; process = p; left = count - 1 })) (event.Refused 5)
+readAs file r = eventRead (placeIn file) (standing r)
 
 unfoldable pub burstAt : List ℕ → Process → ℕ → EventRead
 burstAt file p at = readAs file (readBurst p (drop at file))

@@ -1,11 +1,12 @@
--- What the number reader makes of the groups that it gathered. Rests on nothing.
+-- What the number reader makes of the groups that it gathered. Rests on Cursors.
 use mathlib.Core.Bool.{cond, _&&_}
 use mathlib.Core.List.{List, [], _∷_}
 use Prim.Native.Nat.{ℕ, _+_, _*_, _<_}
 use lib.Dec.{ltb, eqb}
 use lib.ListN.{getD}
 use Rattle.schedule.specs.declared.NumberRead.{NumberRead}
-use Rattle.schedule.specs.declared.NumberRead.the-variants.{Got, Refused}
+use Rattle.schedule.specs.Numbers.{got, stops}
+use Rattle.schedule.specs.Cursors.{numberRead}
 
 -- "groups of seven bits"
 abbrev pub Groups : List ℕ → Type 0
@@ -24,5 +25,5 @@ summedWith groups fifth =
 -- groups with the last at a place, and zeros behind it
 unfoldable pub judged : List ℕ → (last next : ℕ) → NumberRead
 judged groups last next =
-    cond (ltb 0 last && eqb (getD groups last 0) 0) (Refused 6)
-    (cond (ltb 15 (getD groups 4 0)) (Refused 6) (Got (summed groups) next))
+    numberRead (λ left. next)
+    (cond (ltb 0 last && eqb (getD groups last 0) 0) (stops 6) (cond (ltb 15 (getD groups 4 0)) (stops 6) (got (summed groups) [])))

@@ -1,12 +1,8 @@
--- Each way out is the one that `judged` takes by the same tests.
-use Prim.Native.Nat.{_<_, _≤_}
+-- Each way out is the one that `judged` takes by the same tests; the laws are in Gathers.
 use mathlib.Core.Logic.{⊎-elim}
 use native.Mathlib.Omega.{arith}
 use borrow.Author.Needs.{needs}
-use lib.ListN.{getD}
-use Rattle.schedule.specs.Inside.Gathering.{judged}
-use Rattle.table.proofs.Conds.{conds}
-use Rattle.schedule.proofs.Gathers.{summed-five}
+use Rattle.schedule.proofs.Gathers.{zero-last, only-group, last-not-zero, fifth-above, number-made, summed-five}
 use Rattle.schedule.proofs.numbers.judge.Statement.{statement}
 use Rattle.schedule.proofs.numbers.judge.Tie as tie
 
@@ -14,30 +10,27 @@ array-read-if2 : tie.Need-array-read-if2
 array-read-if2 c = search needs
 
 returns : tie.Need-returns
-unfolding judged
-returns c =
-    let another : 0 < c .before .before .args .last = omega arith in
-    search (needs, conds)
+returns c = let a = c .before .before .args in zero-last (a .t1) (a .last) (a .next) (omega arith) (c .if2 .taken)
 
 array-read-fifth : tie.Need-array-read-fifth
 array-read-fifth c = search needs
 
 returns-2 : tie.Need-returns-2
-unfolding judged
 returns-2 c =
-    let above : 15 < getD (c .before .before .args .t1) 4 0 = omega arith in
-    ⊎-elim (λ w. search (needs, conds)) (λ w. search (needs, conds)) (c .before .if1 .came)
+    let a = c .before .before .args in
+    fifth-above (a .t1) (a .last) (a .next)
+    (⊎-elim (λ w. last-not-zero (a .t1) (a .last) (w .1 .left)) (λ w. only-group (a .t1) (a .last) (omega arith)) (c .before .if1 .came))
+    (omega arith)
 
 sum-requires : tie.Need-sum-requires
 sum-requires c κs = search needs
 
 returns-3 : tie.Need-returns-3
-unfolding judged
 returns-3 c =
-    let groups = c .before .before .before .args .t1 in
-    let below : getD groups 4 0 ≤ 15 = omega arith in
-    rw (summed-five groups (omega arith))
-    (⊎-elim (λ w. search (needs, conds)) (λ w. search (needs, conds)) (c .before .before .if1 .came))
+    let a = c .before .before .before .args in
+    number-made (a .t1) (a .last) (a .next) (c .sum .result)
+    (⊎-elim (λ w. last-not-zero (a .t1) (a .last) (w .1 .left)) (λ w. only-group (a .t1) (a .last) (omega arith)) (c .before .before .if1 .came))
+    (omega arith) (omega (arith, summed-five (a .t1) (omega arith)))
 
 pub judge-spec : {M : Type 1} → statement M
 judge-spec =
