@@ -22,7 +22,7 @@ use Rattle.schedule.specs.declared.HeaderRead.the-variants as header
 use Rattle.schedule.specs.Numbers.{Read, got, stops, _then_, readNumber}
 use Rattle.schedule.specs.Encoding.{eventsOf}
 use Rattle.schedule.specs.Reading.{Reading, file, badHeader, readHeader, readFile}
-use Rattle.schedule.specs.Cursors.{start, cursorIn, headerAt}
+use Rattle.schedule.specs.Cursors.{start, placeIn, headerRead, headerAt}
 use Rattle.lent.specs.Fresh.{TablesLeft, tablesLeft, freshFits, freshTables, over, sizesOf}
 use Rattle.lent.specs.declared.Made.{Made}
 use Rattle.lent.specs.declared.Made.the-variants.{Fresh, Refused}
@@ -73,7 +73,7 @@ unfolding headerAt
 header-has s c = by (ltb 65536 (length s)) refl (readHeader (drop (c .at) s)) (sizes-fit (drop (c .at) s))
   where
     by : (long : Bool) → ltb 65536 (length s) ≡ long → (r : Read Header) → SizesFit r
-        → HeaderHas s (cond long (header.Refused 7) (elim r [ got h left ↦ header.Got h (cursorIn s left (process 0) 0) | stops n ↦ header.Refused n ]))
+        → HeaderHas s (headerRead (placeIn s) (cond long (stops 7) r))
     by true e r f = tt
     by false e (got h left) f = (ltb-false 65536 (length s) e, refl, f)
     by false e (stops n) f = tt

@@ -21,7 +21,7 @@ use Rattle.schedule.specs.declared.EventRead.the-variants as event
 use Rattle.schedule.specs.Numbers.{Read, got, stops}
 use Rattle.schedule.specs.Encoding.{Item, single, burst, eventsOf}
 use Rattle.schedule.specs.Reading.{Reading, readHeader, NextItem, end, item, refuses, nextItem, File, file, badHeader, readFile}
-use Rattle.schedule.specs.Cursors.{cursorIn, headerAt, handsOut, eventAt}
+use Rattle.schedule.specs.Cursors.{cursorIn, placeIn, headerRead, headerAt, eventRead, eventAt}
 use Rattle.files.specs.Comes.{readAll, comes, ends, HandedOut, handed, firstThen, handedOut}
 use Rattle.files.proofs.Cases.{if-lt}
 use Rattle.files.proofs.Follows.{Follows, CountFits, Refusal, Next, next, TakesHeader, header-takes}
@@ -57,7 +57,7 @@ steps-left (suc n) e l =
 
 -- in a burst
 burst-tells : (s : List ℕ) (c : Cursor) → 0 < c .left
-    → Answer s c (event.Got (Step (c .process)) (record { at = c .at; process = c .process; left = c .left - 1 }))
+    → Answer s c (event.Got (Step (c .process)) (cursorIn (c .at) (c .process) (c .left - 1)))
 unfolding comes ends
 burst-tells s c l =
     (ap (λ (r : List Event). r ++ eventsOf (readAll (drop (c .at) s) .items)) (steps-left (c .left) (Step (c .process)) l), refl)
@@ -72,14 +72,14 @@ comes-items s c x l e =
 
 -- at a cursor made of the bytes left
 comes-left : (s left : List ℕ) (p : Process) (more : ℕ) → drop (length s - length left) s ≡ left
-    → (comes s (cursorIn s left p more) ≡ replicate more (Step p) ++ eventsOf (readAll left .items))
-    × (ends s (cursorIn s left p more) ≡ readAll left .ended)
+    → (comes s (cursorIn (placeIn s left) p more) ≡ replicate more (Step p) ++ eventsOf (readAll left .items))
+    × (ends s (cursorIn (placeIn s left) p more) ≡ readAll left .ended)
 unfolding comes ends
 comes-left s left p more e =
     (ap (λ (r : List ℕ). replicate more (Step p) ++ eventsOf (readAll r .items)) e, ap (λ (r : List ℕ). readAll r .ended) e)
 
 item-tells : (s : List ℕ) (c : Cursor) (i : Item) (left : List ℕ) → c .left ≤ 0
-    → nextItem (drop (c .at) s) ≡ item i left → Follows left (drop (c .at) s) → CountFits i → Answer s c (handsOut s i left)
+    → nextItem (drop (c .at) s) ≡ item i left → Follows left (drop (c .at) s) → CountFits i → Answer s c (eventRead (placeIn s) (item i left))
 unfolding eventsOf
 item-tells s c (single e) left l x f fits =
     let now = comes-items s c _ l (read-item (drop (c .at) s) (single e) left x) in
@@ -102,7 +102,7 @@ event-tells s c =
     (λ l. by-next l (nextItem (drop (c .at) s)) refl (next (drop (c .at) s)))
   where
     by-next : c .left ≤ 0 → (x : NextItem) → nextItem (drop (c .at) s) ≡ x → Next (drop (c .at) s) x
-        → Answer s c (elim x [ end ↦ event.End | item i left ↦ handsOut s i left | refuses n ↦ event.Refused n ])
+        → Answer s c (eventRead (placeIn s) x)
     by-next l end e t = comes-items s c _ l (read-end (drop (c .at) s) e)
     by-next l (item i left) e t = item-tells s c i left l e (t .0) (t .1)
     by-next l (refuses n) e t =
@@ -132,16 +132,13 @@ HeaderAnswer whole s (header.Refused n) = (whole ≡ badHeader n) × (4 ≤ n) �
 pub header-tells : (s : List ℕ) (c : Cursor) → c .at ≡ 0 → HeaderAnswer (readFile s) s (headerAt s c)
 unfolding readFile headerAt readAll
 header-tells s c e =
-    subst (λ (r : List ℕ). HeaderAnswer (readFile s) s (cond (ltb 65536 (length s)) (header.Refused 7) (found (readHeader r))))
+    subst (λ (r : List ℕ). HeaderAnswer (readFile s) s (headerRead (placeIn s) (cond (ltb 65536 (length s)) (stops 7) (readHeader r))))
     (ap (λ (k : ℕ). drop k s) (sym e))
     (by-header (ltb 65536 (length s)) (readHeader s) (header-takes s))
   where
-    found : Read Header → HeaderRead
-    found r = elim r [ got h left ↦ header.Got h (cursorIn s left (process 0) 0) | stops n ↦ header.Refused n ]
-
     by-header : (long : Bool) (r : Read Header) → TakesHeader s r
         → HeaderAnswer (cond long (badHeader 7) (elim r [ got h left ↦ file h (readAll left) | stops n ↦ badHeader n ])) s
-        (cond long (header.Refused 7) (found r))
+        (headerRead (placeIn s) (cond long (stops 7) r))
     by-header true r t = (refl, omega arith, omega arith)
     by-header false (got h left) t =
         let comes-now = comes-left s left (process 0) 0 (left-at s (t .front) left (t .whole)) in
