@@ -8,7 +8,7 @@ use native.Mathlib.Nat.{zero-add}
 use borrow.Author.Tests.{le-leb, leb-true, ltb-false}
 use lib.Dec.{leb, ltb}
 use lib.ListN.{length, drop, replicate, length-replicate}
-use Rattle.record.specs.Record.{freshRecord, process}
+use Rattle.record.specs.Record.{freshRecord}
 use Rattle.record.specs.declared.Record.{Record}
 use Rattle.record.specs.declared.Outcome.the-variants as outcome
 use Rattle.table.specs.Words.{memory, freshMemory}

@@ -2,12 +2,11 @@
 use Prim.Native.Nat.{ℕ, zero, suc, _+_, _-_, _<_, _≤_}
 use mathlib.Core.Bool.{Bool, true, false, cond, _||_}
 use mathlib.Core.List.{List, [], _∷_}
-use mathlib.Core.Path.{_≡_, refl, ap, sym, _∙_}
+use mathlib.Core.Path.{_≡_, refl, ap, _∙_}
 use native.Mathlib.Omega.{arith}
 use lib.Dec.{ltb, eqb}
 use lib.ListN.{length, drop, length-drop}
 use lib.Seq.{drop-drop}
-use Rattle.schedule.specs.declared.NumberRead.{NumberRead}
 use Rattle.schedule.specs.declared.NumberRead.the-variants.{Got, Refused}
 use Rattle.schedule.specs.Numbers.{Read, got, stops, _then_, lowest, moreGroups, readNumber}
 use Rattle.schedule.specs.Cursors.{placeIn, numberRead, numberAt}

@@ -1,32 +1,28 @@
 -- What the reader's definitions give once the numbers at a place are known: one law for each way out of its functions. Rests on Places.
-use Prim.Native.Nat.{ℕ, suc, _-_, _<_, _≤_}
+use Prim.Native.Nat.{ℕ, _-_, _<_, _≤_}
 use mathlib.Core.Bool.{Bool, true, false, cond, _&&_}
-use mathlib.Core.List.{List, [], _∷_}
-use mathlib.Core.Path.{_≡_, refl, ap, sym, _∙_}
+use mathlib.Core.List.{List, []}
+use mathlib.Core.Path.{_≡_, refl}
 use native.Mathlib.Omega.{arith}
 use borrow.Author.Tests.{lt-ltb, le-ltb, le-leb, lt-leb}
-use lib.Dec.{leb, ltb}
-use lib.ListN.{length, drop, getD, drop-of-length-le}
+use lib.Dec.{leb}
+use lib.ListN.{length, drop, drop-of-length-le}
 use lib.Seq.{drop-cons}
 use Rattle.record.specs.Record.{process, address}
 use Rattle.record.specs.declared.Process.{Process}
-use Rattle.record.specs.declared.Event.{Event}
 use Rattle.record.specs.declared.Event.the-variants.{Step}
 use Rattle.table.specs.Events.{sizesFit}
 use Rattle.schedule.specs.declared.Header.{Header}
 use Rattle.schedule.specs.declared.Cursor.{Cursor}
-use Rattle.schedule.specs.declared.NumberRead.{NumberRead}
 use Rattle.schedule.specs.declared.NumberRead.the-variants as number
-use Rattle.schedule.specs.declared.HeaderRead.{HeaderRead}
 use Rattle.schedule.specs.declared.HeaderRead.the-variants as header
-use Rattle.schedule.specs.declared.EventRead.{EventRead}
 use Rattle.schedule.specs.declared.EventRead.the-variants as event
-use Rattle.schedule.specs.Numbers.{Read, got, stops, _then_, readNumber}
-use Rattle.schedule.specs.Encoding.{Item, single, burst}
+use Rattle.schedule.specs.Numbers.{got, stops, _then_}
+use Rattle.schedule.specs.Encoding.{burst}
 use Rattle.schedule.specs.Reading.{readHeader, request, move, readBurst, readRest, readItem, item, refuses, nextItem}
 use Rattle.schedule.specs.Cursors.{cursorIn, cursorAt, placeIn, numberAt, headerRead, headerAt, eventRead, eventAt}
 use Rattle.schedule.specs.Inside.Continuing.{sizedAt, readAs, burstOf, burstAt, requestAt, restAt, itemAt}
-use Rattle.schedule.proofs.Places.{GotAt, place-of-drop, got-number, refused-number}
+use Rattle.schedule.proofs.Places.{place-of-drop, got-number, refused-number}
 
 -- ---- the header
 

@@ -6,7 +6,6 @@ use lib.Dec.{ltb}
 use lib.ListN.{length, drop}
 use Rattle.record.specs.Record.{process}
 use Rattle.record.specs.declared.Process.{Process}
-use Rattle.record.specs.declared.Event.{Event}
 use Rattle.record.specs.declared.Event.the-variants.{Step}
 use Rattle.schedule.specs.declared.Header.{Header}
 use Rattle.schedule.specs.declared.Cursor.{Cursor}
@@ -17,7 +16,7 @@ use Rattle.schedule.specs.declared.HeaderRead.the-variants as header
 use Rattle.schedule.specs.declared.EventRead.{EventRead}
 use Rattle.schedule.specs.declared.EventRead.the-variants as event
 use Rattle.schedule.specs.Numbers.{Read, got, stops, readNumber}
-use Rattle.schedule.specs.Encoding.{Item, single, burst}
+use Rattle.schedule.specs.Encoding.{single, burst}
 use Rattle.schedule.specs.Reading.{readHeader, NextItem, end, item, refuses, nextItem}
 
 -- at a place, in a burst of which so many steps are left

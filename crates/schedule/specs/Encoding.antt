@@ -1,5 +1,4 @@
 -- 01, "Schedule bytes": a header, events and bursts as bytes, defined without a reader. Rests on Numbers.
-use mathlib.Core.Bool.{Bool}
 use mathlib.Core.List.{List, [], _∷_, _++_}
 use mathlib.Core.Option.{Option, none, some}
 use Prim.Native.Nat.{ℕ}
@@ -8,8 +7,7 @@ use Rattle.record.specs.Event.{kindOf, processOf, addressOf}
 use Rattle.record.specs.declared.Process.{Process}
 use Rattle.record.specs.declared.Address.{Address}
 use Rattle.record.specs.declared.Event.{Event}
-use Rattle.record.specs.declared.Event.the-variants.{Insert, Delete, Find, Step, Stop, Restart}
-use Rattle.table.specs.Events.{sizesFit}
+use Rattle.record.specs.declared.Event.the-variants.{Step}
 use Rattle.schedule.specs.declared.Header.{Header}
 use Rattle.schedule.specs.Numbers.{numberBytes}
 

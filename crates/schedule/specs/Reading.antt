@@ -1,5 +1,5 @@
 -- 01, "Schedule bytes" and "Refusal numbers": what the bytes of a file read as, with refusals 4 to 7 in their order. Rests on Numbers.
-use mathlib.Core.Bool.{Bool, true, false, cond, _&&_}
+use mathlib.Core.Bool.{cond, _&&_}
 use mathlib.Core.List.{List, [], _∷_}
 use Prim.Native.Nat.{ℕ, zero, suc}
 use lib.Dec.{leb, ltb, eqb}

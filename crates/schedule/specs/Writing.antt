@@ -1,6 +1,6 @@
 -- 01, "The writer": what it leaves of the output, with refusals 7 and 9. Rests on Encoding.
-use mathlib.Core.Bool.{Bool, true, false, cond}
-use mathlib.Core.List.{List, [], _∷_, _++_}
+use mathlib.Core.Bool.{cond}
+use mathlib.Core.List.{List, _++_}
 use Prim.Native.Nat.{ℕ, _+_, _-_, min}
 use lib.Dec.{leb}
 use lib.ListN.{length, take, drop}
