@@ -1,9 +1,9 @@
 -- All the bytes go out, or none; what is lent is as much (`rest-fits`, `rest-lacks`).
 use native.Mathlib.Omega.{arith}
+use borrow.Author.Needs.{needs}
 use lib.ListN.{length-take, take-append-drop}
 use Rattle.schedule.proofs.Parts.{all-some}
 use Rattle.schedule.proofs.Lays.{within-room, none-go-out, all-go-out, rest-fits, rest-lacks}
-use borrow.Author.Needs.{needs}
 use Rattle.schedule.proofs.writing.put_event.Statement.{statement}
 use Rattle.schedule.proofs.writing.put_event.Tie as tie
 

@@ -1,8 +1,8 @@
 -- The first number, then the others in the rest (`fitted-then`).
+use borrow.Author.Needs.{needs}
 use Rattle.schedule.specs.Numbers.{numberBytes}
 use Rattle.schedule.specs.Inside.Laying.{tailBytes}
 use Rattle.schedule.proofs.Lays.{fitted-then}
-use borrow.Author.Needs.{needs}
 use Rattle.schedule.proofs.writing.put_numbers.Statement.{statement}
 use Rattle.schedule.proofs.writing.put_numbers.Tie as tie
 

@@ -2,11 +2,11 @@
 use Prim.Native.Nat.{ℕ}
 use mathlib.Core.Path.{sym, ap, _∙_}
 use mathlib.Core.List.{List}
+use borrow.Author.Needs.{needs}
 use Rattle.schedule.specs.Numbers.{numberBytes}
 use Rattle.schedule.specs.Inside.Laying.{fitted}
 use Rattle.schedule.proofs.Parts.{tail-of-two, tail-of-three}
 use Rattle.schedule.proofs.Lays.{fitted-then}
-use borrow.Author.Needs.{needs}
 use Rattle.schedule.proofs.writing.put_tail.Statement.{statement}
 use Rattle.schedule.proofs.writing.put_tail.Tie as tie
 

@@ -1,9 +1,9 @@
 -- A start past the output leaves none; else the event writer is lent the rest (`put-in-rest`).
 use native.Mathlib.Omega.{arith}
+use borrow.Author.Needs.{needs}
 use Rattle.schedule.specs.Inside.Laying.{bytesOf}
 use Rattle.schedule.proofs.Parts.{all-some}
 use Rattle.schedule.proofs.Lays.{put-past, put-in-rest}
-use borrow.Author.Needs.{needs}
 use Rattle.schedule.proofs.writing.write_numbers.Statement.{statement}
 use Rattle.schedule.proofs.writing.write_numbers.Tie as tie
 
