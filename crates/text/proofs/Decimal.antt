@@ -1,14 +1,17 @@
 -- A number below 2³² in decimal: how many digits it has, and that they are its last digits. Rests on Text.
-use Prim.Native.Nat.{ℕ, zero, suc, _+_, _*_, _/_, _%_, _<_, _≤_}
+use Prim.Native.Nat.{ℕ, zero, suc, _+_, _*_, _-_, _/_, _%_, _<_, _≤_}
 use mathlib.Core.List.{List, [], _∷_, _++_}
 use mathlib.Core.Path.{_≡_, refl, ap, sym, _∙_}
 use mathlib.Core.Bool.{Bool, true, false, cond}
 use native.Mathlib.Omega.{arith}
 use native.Mathlib.Numerals.{add-one}
+use native.Mathlib.Nat.{mul-assoc, mul-one, zero-add, suc-add}
 use borrow.Author.Tests.{lt-ltb, le-ltb, ltb-true, ltb-false}
-use lib.ListN.{length, length-append}
+use lib.ListN.{length, take, length-append}
+use lib.Seq.{take-all, take-append-le}
 use lib.Dec.{ltb}
 use Rattle.text.specs.Text.{digits, decimal}
+use Rattle.text.specs.Digits.{lastDigits, tens}
 
 -- 10, 100, ..: a number below has at most so many digits and one
 abbrev pub power : ℕ → ℕ
@@ -35,11 +38,6 @@ pub decimal-more : (n : ℕ) → 10 ≤ n → n < 4294967296 → decimal n ≡ d
 unfolding decimal
 decimal-more n h s =
     digits-next n h ∙ ap (λ (l : List ℕ). l ++ ((48 + n % 10) ∷ [])) (sym (digits-enough 8 (n / 10) (omega arith)))
-
--- the last digits of a number, so many
-unfoldable pub lastDigits : ℕ → ℕ → List ℕ
-lastDigits zero n = []
-lastDigits (suc k) n = lastDigits k (n / 10) ++ ((48 + n % 10) ∷ [])
 
 -- how many digits
 length-more : (n : ℕ) → 10 ≤ n → n < 4294967296 → length (decimal n) ≡ suc (length (decimal (n / 10)))
@@ -68,17 +66,68 @@ last-more n h s e =
     decimal-more n h s
     ∙ (ap (λ (l : List ℕ). l ++ ((48 + n % 10) ∷ [])) e ∙ ap (λ (m : ℕ). lastDigits m n) (sym (length-more n h s)))
 
-module _ (n : ℕ) (s : n < 4294967296) (tenth : decimal (n / 10) ≡ lastDigits (length (decimal (n / 10))) (n / 10)) where
-  by-size : (small : Bool) → ltb n 10 ≡ small → decimal n ≡ lastDigits (length (decimal n)) n
-  by-size true e = last-one n (ltb-true n 10 e)
-  by-size false e = last-more n (ltb-false n 10 e) s tenth
+-- from a number without its last digit to the number
+module _ (P : ℕ → Type 0) (one : (n : ℕ) → n < 10 → P n) (more : (n : ℕ) → 10 ≤ n → n < 4294967296 → P (n / 10) → P n) where
+  by-size : (n : ℕ) → n < 4294967296 → P (n / 10) → (small : Bool) → ltb n 10 ≡ small → P n
+  by-size n s tenth true e = one n (ltb-true n 10 e)
+  by-size n s tenth false e = more n (ltb-false n 10 e) s tenth
 
-by-turns : (k n : ℕ) → n < power k → n < 4294967296 → decimal n ≡ lastDigits (length (decimal n)) n
-by-turns zero n h s = last-one n h
-by-turns (suc k) n h s = by-size n s (by-turns k (n / 10) (omega arith) (omega arith)) (ltb n 10) refl
+  by-turns : (k n : ℕ) → n < power k → n < 4294967296 → P n
+  by-turns zero n h s = one n h
+  by-turns (suc k) n h s = by-size n s (by-turns k (n / 10) (omega arith) (omega arith)) (ltb n 10) refl
+
+  by-digits : (n : ℕ) → n < 4294967296 → P n
+  by-digits n s = by-turns 9 n (omega arith) s
 
 pub decimal-is-last : (n : ℕ) → n < 4294967296 → decimal n ≡ lastDigits (length (decimal n)) n
-decimal-is-last n s = by-turns 9 n (omega arith) s
+decimal-is-last = by-digits (λ (n : ℕ). decimal n ≡ lastDigits (length (decimal n)) n) last-one last-more
+
+-- a number is below the power of ten that has a digit more
+below-one : (n : ℕ) → n < 10 → n < tens (length (decimal n))
+unfolding tens
+below-one n h = rw (sym (places-one n h)) (omega arith)
+
+below-more : (n : ℕ) → 10 ≤ n → n < 4294967296 → n / 10 < tens (length (decimal (n / 10))) → n < tens (length (decimal n))
+unfolding tens
+below-more n h s e = rw (length-more n h s) (omega (arith, e))
+
+decimal-below : (n : ℕ) → n < 4294967296 → n < tens (length (decimal n))
+decimal-below = by-digits (λ (n : ℕ). n < tens (length (decimal n))) below-one below-more
+
+-- with zeros after it, a number has the same first digits, and as many more
+pub length-last : (k n : ℕ) → length (lastDigits k n) ≡ k
+unfolding lastDigits
+length-last zero n = refl
+length-last (suc k) n = simp length-append (omega (arith, length-last k (n / 10)))
+
+lifted-below : (j k n : ℕ) → n < tens k → n * tens j < tens (j + k)
+unfolding tens
+lifted-below zero k n h = rw (zero-add, mul-one) h
+lifted-below (suc j) k n h =
+    let e = lifted-below j k n h in
+    rw (suc-add j k, sym (mul-assoc n (tens j) 10)) (omega (arith, e))
+
+lifted : (j k n : ℕ) → take k (lastDigits (j + k) (n * tens j)) ≡ lastDigits k n
+unfolding lastDigits tens
+lifted zero k n = rw (zero-add, mul-one) (take-all k (lastDigits k n) (omega (arith, length-last k n)))
+lifted (suc j) k n =
+    let m : n * (tens j * 10) / 10 ≡ n * tens j = rw (sym (mul-assoc n (tens j) 10)) (omega arith) in
+    rw (suc-add j k, m)
+    (take-append-le k (lastDigits (j + k) (n * tens j)) _ (omega (arith, length-last (j + k) (n * tens j))) ∙ lifted j k n)
+
+-- a number of at most eight digits made one of eight
+module _ (k n m : ℕ) (s : n < 4294967296) (c : k ≡ length (decimal n)) (h : k ≤ 8) (e : m ≡ tens (8 - k)) where
+  all : 8 - k + k ≡ 8
+  all = omega arith
+
+  pub eight-fits : n * m < 100000000
+  unfolding tens
+  eight-fits = rw e (rw all at (lifted-below (8 - k) k n (rw c (decimal-below n s))))
+
+  pub eight-begins : take k (lastDigits 8 (n * m)) ≡ decimal n
+  eight-begins =
+      ap (λ (i : ℕ). take k (lastDigits i (n * m))) (sym all)
+      ∙ (ap (λ (t : ℕ). take k (lastDigits (8 - k + k) (n * t))) e ∙ (lifted (8 - k) k n ∙ (ap (λ (i : ℕ). lastDigits i n) c ∙ sym (decimal-is-last n s))))
 
 length-cond : (b : Bool) (x y : List ℕ) (least most : ℕ) → (least ≤ length x) × (length x ≤ most) → (least ≤ length y) × (length y ≤ most)
     → (least ≤ length (cond b x y)) × (length (cond b x y) ≤ most)

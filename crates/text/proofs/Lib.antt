@@ -2,3 +2,4 @@ pub mod Decimal
 pub mod Puts
 pub mod Lengths
 pub mod Unique
+pub mod Lanes

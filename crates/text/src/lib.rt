@@ -2,35 +2,21 @@
 // Each writer answers how many bytes it put; a part of fewer than 32 bytes is left as it is. Rests on the text of 01, specs/Text.
 ghost use mathlib.Core.Path.{_≡_};
 ghost use mathlib.Core.List.{[], _∷_, _++_};
-ghost use Prim.Native.Nat.{_≤_};
+ghost use Prim.Native.Nat.{_-_, _<_, _≤_};
 ghost use lib.ListN.{length};
 ghost use Rattle.text.specs.Text.{decimal, space, newline, keysWord, outcomeText, line};
+ghost use Rattle.text.specs.Digits.{lastDigits, word, pairsOf, tens, Begun};
 ghost use Rattle.text.specs.Put.{put, puts, putInto};
 ghost use Rattle.record.specs.declared.Outcome.the-variants.{Refused, Answered};
 use record::Address;
 use record::Outcome;
 
-// How many decimal digits a number has.
+// How many decimal digits a number has; those of a long run's lines are told first.
 fn places(n: u32) -> usize
     ensures { λ r. ⌜ r ≡ length (decimal n) ⌝ }
 {
-    if n < 10 {
-        return 1;
-    }
-    if n < 100 {
-        return 2;
-    }
-    if n < 1000 {
-        return 3;
-    }
-    if n < 10000 {
-        return 4;
-    }
-    if n < 100000 {
-        return 5;
-    }
     if n < 1000000 {
-        return 6;
+        return places_few(n);
     }
     if n < 10000000 {
         return 7;
@@ -42,6 +28,28 @@ fn places(n: u32) -> usize
         return 9;
     }
     10
+}
+
+fn places_few(n: u32) -> usize
+    requires { ⌜ n < 1000000 ⌝ }
+    ensures { λ r. ⌜ r ≡ length (decimal n) ⌝ }
+{
+    if 100000 <= n {
+        return 6;
+    }
+    if 10000 <= n {
+        return 5;
+    }
+    if 1000 <= n {
+        return 4;
+    }
+    if 100 <= n {
+        return 3;
+    }
+    if 10 <= n {
+        return 2;
+    }
+    1
 }
 
 // A number in decimal, its last digit first.
@@ -58,6 +66,77 @@ fn put_decimal(part: &mut [u8], n: u32) -> usize
         part[i] = 48 + (rest % 10) as u8;
         rest = rest / 10;
     }
+    count
+}
+
+// The four pairs of eight digits, each in sixteen bits, the first lowest.
+fn pairs(n: u32) -> u64
+    requires { ⌜ n < 100000000 ⌝ }
+    ensures { λ r. ⌜ r ≡ pairsOf n ⌝ }
+{
+    let fours = (n / 10000) as u64 + (n % 10000) as u64 * 4294967296;
+    let shares = fours * 10486 / 1048576;
+    let hundreds = shares % 128 + shares / 4294967296 * 4294967296;
+    fours * 65536 - hundreds * 6553599
+}
+
+// The text of eight digits, each in eight bits, the first lowest.
+fn spelt(n: u32) -> u64
+    requires { ⌜ n < 100000000 ⌝ }
+    ensures { λ r. ⌜ r ≡ word (lastDigits 8 n) ⌝ }
+{
+    let pairs = pairs(n);
+    let shares = pairs * 103 / 1024;
+    let low = shares % 16 + shares / 65536 % 16 * 65536;
+    let tens = low + shares / 4294967296 % 16 * 4294967296 + shares / 281474976710656 * 281474976710656;
+    pairs * 256 + 3472328296227680304 - tens * 2559
+}
+
+// Eight digits.
+fn put_eight(part: &mut [u8], n: u32) -> usize
+    requires { ⌜ n < 100000000 ⌝ }
+    requires { ⌜ 8 ≤ length (now part) ⌝ }
+    ensures { λ r. ⌜ put (now (part .exit)) r ≡ puts (lastDigits 8 n) (now (part .entry)) ⌝ }
+{
+    let text = spelt(n);
+    part[0] = (text % 256) as u8;
+    part[1] = (text / 256 % 256) as u8;
+    part[2] = (text / 65536 % 256) as u8;
+    part[3] = (text / 16777216 % 256) as u8;
+    part[4] = (text / 4294967296 % 256) as u8;
+    part[5] = (text / 1099511627776 % 256) as u8;
+    part[6] = (text / 281474976710656 % 256) as u8;
+    part[7] = (text / 72057594037927936) as u8;
+    8
+}
+
+// What makes eight digits of so many.
+fn lift(count: usize) -> u32
+    requires { ⌜ 4 ≤ count ⌝ }
+    ensures { λ r. ⌜ r ≡ tens (8 - count) ⌝ }
+{
+    match count {
+        4 => 10000,
+        5 => 1000,
+        6 => 100,
+        7 => 10,
+        _ => 1,
+    }
+}
+
+// The number of a line, for at least four bytes to follow: of those that it leaves changed, they take the place.
+fn put_number(part: &mut [u8], n: u32) -> usize
+    requires { ⌜ 14 ≤ length (now part) ⌝ }
+    ensures { λ r. ⌜ Begun (decimal n) (now (part .entry)) (now (part .exit)) r ⌝ }
+{
+    let count = places(n);
+    if count < 4 {
+        return put_decimal(part, n);
+    }
+    if 8 < count {
+        return put_decimal(part, n);
+    }
+    put_eight(part, n * lift(count));
     count
 }
 
@@ -89,6 +168,11 @@ fn put_ended(part: &mut [u8], n: u32) -> usize
     ensures { λ r. ⌜ put (now (part .exit)) r ≡ puts (decimal n ++ (newline ∷ [])) (now (part .entry)) ⌝ }
     ensures { λ r. ⌜ r ≤ 11 ⌝ }
 {
+    if n < 10 {
+        part[0] = 48 + n as u8;
+        part[1] = 10;
+        return 2;
+    }
     let k = put_decimal(part, n);
     part[k] = 10;
     k + 1
@@ -141,7 +225,7 @@ pub fn put_line(part: &mut [u8], number: u32, outcome: Outcome) -> usize
     if part.len() < 32 {
         return 0;
     }
-    let k = put_decimal(part, number);
+    let k = put_number(part, number);
     let m = put_outcome(&mut part[k..], outcome);
     k + m
 }

@@ -7,7 +7,8 @@ use lib.ListN.{length, drop, length-set}
 use borrow.Author.Needs.{needs}
 use Rattle.text.specs.Text.{decimal}
 use Rattle.text.specs.Put.{put}
-use Rattle.text.proofs.Decimal.{lastDigits, decimal-is-last, decimal-length}
+use Rattle.text.specs.Digits.{lastDigits}
+use Rattle.text.proofs.Decimal.{decimal-is-last, decimal-length}
 use Rattle.text.proofs.Puts.{spell-more}
 use Rattle.text.proofs.put_decimal.Statement.{statement}
 use Rattle.text.proofs.put_decimal.Tie as tie

@@ -1,30 +1,71 @@
 -- The digits, and one byte more.
+use mathlib.Core.List.{[], _∷_, _++_}
+use mathlib.Core.Path.{ap}
+use Prim.Native.Nat.{ℕ, _+_}
+use mathlib.Core.List.{List}
 use native.Mathlib.Omega.{arith}
-use Rattle.text.proofs.Puts.{put-byte}
+use lib.ListN.{length-set}
+use Rattle.text.proofs.Puts.{put-one, put-byte, puts-same}
 use Rattle.text.specs.Text.{decimal, newline}
-use Rattle.text.proofs.Decimal.{decimal-length}
+use Rattle.text.proofs.Decimal.{decimal-one, decimal-length}
 use borrow.Author.Needs.{needs}
 use Rattle.text.proofs.put_ended.Statement.{statement}
 use Rattle.text.proofs.put_ended.Tie as tie
 
-put-decimal-requires : tie.Need-put-decimal-requires
-put-decimal-requires c κs = search needs
+cast-part : tie.Need-cast-part
+cast-part c = search needs
+
+add-part : tie.Need-add-part
+add-part c = search needs
 
 slice-write-part : tie.Need-slice-write-part
 slice-write-part c = search needs
 
-add-result : tie.Need-add-result
-add-result c = search needs
+slice-write-part-2 : tie.Need-slice-write-part-2
+slice-write-part-2 c = simp length-set (omega arith)
 
 same-length : tie.Need-same-length
 same-length c = search needs
 
 returns : tie.Need-returns
 returns c =
-    let c5 = c .before .before .before .before .before in
-    let a = c5 .args in
+    let a = c .before .before .args in
+    let digit = (48 + a .n) ∷ [] in (
+      puts-same (digit ++ (newline ∷ [])) (decimal (a .n) ++ (newline ∷ [])) (a .part .now) _
+          (ap (λ (l : List ℕ). l ++ (newline ∷ [])) (decimal-one (a .n) (omega arith)))
+          (put-byte digit (a .part .now) _ _ newline (put-one (a .part .now) (48 + a .n) (omega arith)) (omega arith)),
+      omega arith,
+    )
+
+put-decimal-requires : tie.Need-put-decimal-requires
+put-decimal-requires c κs = search needs
+
+slice-write-part-3 : tie.Need-slice-write-part-3
+slice-write-part-3 c = search needs
+
+add-result : tie.Need-add-result
+add-result c = search needs
+
+same-length-2 : tie.Need-same-length-2
+same-length-2 c = search needs
+
+returns-2 : tie.Need-returns-2
+returns-2 c =
+    let a = c .before .before .before .before .before .before .args in
     (put-byte (decimal (a .n)) (a .part .now) _ _ newline (c .before .before .put-decimal .ensures .0) (omega (arith, decimal-length (a .n))), omega arith)
 
 pub put-ended-spec : {M : Type 1} → statement M
 put-ended-spec =
-    tie.close (tie.spec put-decimal-requires slice-write-part add-result same-length returns)
+    tie.close
+    (tie.spec
+    cast-part
+    add-part
+    slice-write-part
+    slice-write-part-2
+    same-length
+    returns
+    put-decimal-requires
+    slice-write-part-3
+    add-result
+    same-length-2
+    returns-2)

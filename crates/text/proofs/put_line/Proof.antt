@@ -1,7 +1,8 @@
 -- The number, then the outcome into the rest.
 use mathlib.Core.List.{[], _∷_, _++_}
 use native.Mathlib.Omega.{arith}
-use Rattle.text.proofs.Puts.{put-then, too-short, has-room}
+use Rattle.text.proofs.Puts.{put-over, too-short, has-room}
+use Rattle.text.proofs.Lengths.{outcome-some}
 use Rattle.text.specs.Text.{decimal, space, newline, outcomeText, line}
 use borrow.Author.Needs.{needs}
 use Rattle.text.proofs.put_line.Statement.{statement}
@@ -10,8 +11,8 @@ use Rattle.text.proofs.put_line.Tie as tie
 returns : tie.Need-returns
 returns c = let a = c .before .before .args in (too-short (line (a .number) (a .outcome)) (a .part .now) (search needs), search needs)
 
-put-decimal-requires : tie.Need-put-decimal-requires
-put-decimal-requires c κs = search needs
+put-number-requires : tie.Need-put-number-requires
+put-number-requires c κs = search needs
 
 sub-put-outcome : tie.Need-sub-put-outcome
 sub-put-outcome c = search needs
@@ -38,8 +39,8 @@ returns-2 c =
     let c10 = c6 .before .before .before .before in
     let a = c10 .args in
     let rest = space ∷ outcomeText (a .outcome) ++ (newline ∷ []) in
-    let whole = put-then (decimal (a .number)) rest (a .part .now) _ _ _ _
-    (c6 .put-decimal .ensures .0) (c .before .before .put-outcome .ensures .0) in
+    let whole = put-over (decimal (a .number)) rest (a .part .now) _ _ _ _
+    (c6 .put-number .ensures) (outcome-some (a .outcome)) (c .before .before .put-outcome .ensures .0) in
     (has-room (line (a .number) (a .outcome)) (a .part .now) _ (omega arith) whole, omega arith)
 
 pub put-line-spec : {M : Type 1} → statement M
@@ -47,7 +48,7 @@ put-line-spec =
     tie.close
     (tie.spec
     returns
-    put-decimal-requires
+    put-number-requires
     sub-put-outcome
     part-put-outcome-start
     part-put-outcome-end

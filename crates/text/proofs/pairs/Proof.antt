@@ -1,0 +1,55 @@
+-- The hundreds of both halves at once, and what is left of them.
+use native.Mathlib.Omega.{arith}
+use Rattle.text.proofs.Lanes.{left-is, left-some, low-hundreds, high-hundreds, less-pairs}
+use borrow.Author.Needs.{needs}
+use Rattle.text.proofs.pairs.Statement.{statement}
+use Rattle.text.proofs.pairs.Tie as tie
+
+cast-fours : tie.Need-cast-fours
+cast-fours c = search needs
+
+cast-fours-2 : tie.Need-cast-fours-2
+cast-fours-2 c = search needs
+
+mul-fours : tie.Need-mul-fours
+mul-fours c = search needs
+
+add-fours : tie.Need-add-fours
+add-fours c = search needs
+
+mul-shares : tie.Need-mul-shares
+mul-shares c = search needs
+
+mul-hundreds : tie.Need-mul-hundreds
+mul-hundreds c = rw (high-hundreds (c .args .n) (c .pre)) (omega arith)
+
+add-hundreds : tie.Need-add-hundreds
+add-hundreds c = rw (low-hundreds (c .args .n) (c .pre), high-hundreds (c .args .n) (c .pre)) (omega arith)
+
+mul-result : tie.Need-mul-result
+mul-result c = search needs
+
+mul-result-2 : tie.Need-mul-result-2
+mul-result-2 c = rw (low-hundreds (c .args .n) (c .pre), high-hundreds (c .args .n) (c .pre)) (omega arith)
+
+sub-result : tie.Need-sub-result
+sub-result c = rw (low-hundreds (c .args .n) (c .pre), high-hundreds (c .args .n) (c .pre)) (left-some _ _ _ (less-pairs (c .args .n) (c .pre)))
+
+returns : tie.Need-returns
+returns c = rw (low-hundreds (c .args .n) (c .pre), high-hundreds (c .args .n) (c .pre)) (left-is _ _ _ (less-pairs (c .args .n) (c .pre)))
+
+pub pairs-spec : {M : Type 1} → statement M
+pairs-spec =
+    tie.close
+    (tie.spec
+    cast-fours
+    cast-fours-2
+    mul-fours
+    add-fours
+    mul-shares
+    mul-hundreds
+    add-hundreds
+    mul-result
+    mul-result-2
+    sub-result
+    returns)
