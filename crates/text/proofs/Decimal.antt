@@ -127,7 +127,8 @@ module _ (k n m : ℕ) (s : n < 4294967296) (c : k ≡ length (decimal n)) (h : 
   pub eight-begins : take k (lastDigits 8 (n * m)) ≡ decimal n
   eight-begins =
       ap (λ (i : ℕ). take k (lastDigits i (n * m))) (sym all)
-      ∙ (ap (λ (t : ℕ). take k (lastDigits (8 - k + k) (n * t))) e ∙ (lifted (8 - k) k n ∙ (ap (λ (i : ℕ). lastDigits i n) c ∙ sym (decimal-is-last n s))))
+      ∙ (ap (λ (t : ℕ). take k (lastDigits (8 - k + k) (n * t))) e
+      ∙ (lifted (8 - k) k n ∙ (ap (λ (i : ℕ). lastDigits i n) c ∙ sym (decimal-is-last n s))))
 
 length-cond : (b : Bool) (x y : List ℕ) (least most : ℕ) → (least ≤ length x) × (length x ≤ most) → (least ≤ length y) × (length y ≤ most)
     → (least ≤ length (cond b x y)) × (length (cond b x y) ≤ most)

@@ -1,7 +1,7 @@
 -- Eight digits in one word, all lanes shared out at once: the quotients that `pairs` and `spelt` take, lane by lane. Rests on Digits.
 use Prim.Native.Nat.{ℕ, _+_, _*_, _-_, _/_, _%_, _<_, _≤_}
 use mathlib.Core.List.{[], _∷_}
-use mathlib.Core.Path.{_≡_, ap, sym, _∙_}
+use mathlib.Core.Path.{_≡_, _∙_}
 use native.Mathlib.Omega.{arith}
 use Rattle.text.specs.Digits.{lanes, pairsOf, word, lastDigits}
 
@@ -57,22 +57,33 @@ this-share a rest h = omega arith
 abbrev tenths : ℕ → ℕ
 tenths p = p * 103 / 1024
 
-module _ (a b c d p : ℕ) (fa : a < 100) (fb : b < 100) (fc : c < 100) (fd : d < 100) (e : p ≡ lanes a b c d) where
+-- four pairs, in one
+pub record Paired (a b c d p : ℕ) : Type 0 where
+  pub first : a < 100
+  pub second : b < 100
+  pub third : c < 100
+  pub fourth : d < 100
+  pub is : p ≡ lanes a b c d
+
+pub paired : (n p : ℕ) → n < 100000000 → p ≡ pairsOf n → Paired (n / 1000000) (n / 10000 % 100) (n / 100 % 100) (n % 100) p
+paired n p s e = record { first = omega arith; second = omega arith; third = omega arith; fourth = omega arith; is = e }
+
+module _ (a b c d p : ℕ) (q : Paired a b c d p) where
   tenths-1 : tenths p ≡ a / 10 + 6592 * (b + 65536 * (c + 65536 * d))
   tenths-1 = omega arith
 
   tenths-2 : tenths p / 65536 ≡ b / 10 + 6592 * (c + 65536 * d)
-  tenths-2 = rw tenths-1 (next-share (a / 10) b (c + 65536 * d) (omega arith) fb)
+  tenths-2 = rw tenths-1 (next-share (a / 10) b (c + 65536 * d) (omega arith) (q .second))
 
   tenths-3 : tenths p / 4294967296 ≡ c / 10 + 6592 * d
   tenths-3 =
-      let q : tenths p / 4294967296 ≡ tenths p / 65536 / 65536 = omega arith in
-      rw (q, tenths-2) (next-share (b / 10) c d (omega arith) fc)
+      let t : tenths p / 4294967296 ≡ tenths p / 65536 / 65536 = omega arith in
+      rw (t, tenths-2) (next-share (b / 10) c d (omega arith) (q .third))
 
   tenths-4 : tenths p / 281474976710656 ≡ d / 10
   tenths-4 =
-      let q : tenths p / 281474976710656 ≡ tenths p / 4294967296 / 65536 = omega arith in
-      rw (q, tenths-3) (omega arith)
+      let t : tenths p / 281474976710656 ≡ tenths p / 4294967296 / 65536 = omega arith in
+      rw (t, tenths-3) (omega arith)
 
   lane-1 : tenths p % 16 ≡ a / 10
   lane-1 = rw tenths-1 (this-share (a / 10) _ (omega arith))
@@ -83,14 +94,14 @@ module _ (a b c d p : ℕ) (fa : a < 100) (fb : b < 100) (fc : c < 100) (fd : d 
   lane-3 : tenths p / 4294967296 % 16 ≡ c / 10
   lane-3 = rw tenths-3 (this-share (c / 10) _ (omega arith))
 
-  tens-are : tenths p % 16 + tenths p / 65536 % 16 * 65536 + tenths p / 4294967296 % 16 * 4294967296
+  pub tens-are : tenths p % 16 + tenths p / 65536 % 16 * 65536 + tenths p / 4294967296 % 16 * 4294967296
       + tenths p / 281474976710656 * 281474976710656 ≡ lanes (a / 10) (b / 10) (c / 10) (d / 10)
   tens-are = rw (lane-1, lane-2, lane-3, tenths-4) (omega arith)
 
-  pairs-few : p < 28147926199271424
+  pub pairs-few : p < 28147926199271424
   pairs-few = omega arith
 
-  tens-few : lanes (a / 10) (b / 10) (c / 10) (d / 10) < 2814792619927143
+  pub tens-few : lanes (a / 10) (b / 10) (c / 10) (d / 10) < 2814792619927143
   tens-few = omega arith
 
 -- ---- the digits by pairs
@@ -122,23 +133,9 @@ spelt-pairs n s =
     rw (by-hundred n, e4, e6, top, pair-high (n / 10000), pair-low (n / 10000), pair-high (n / 100), pair-low (n / 100), pair-high n, pair-low n)
     (omega arith)
 
-abbrev tensOf : ℕ → ℕ
-tensOf n = lanes (n / 1000000 / 10) (n / 10000 % 100 / 10) (n / 100 % 100 / 10) (n % 100 / 10)
-
-module _ (n p : ℕ) (s : n < 100000000) (e : p ≡ pairsOf n) where
-  pub spelt-few : p < 28147926199271424
-  spelt-few = pairs-few (n / 1000000) (n / 10000 % 100) (n / 100 % 100) (n % 100) p (omega arith) (omega arith) (omega arith) (omega arith) e
-
-  pub spelt-tens : tenths p % 16 + tenths p / 65536 % 16 * 65536 + tenths p / 4294967296 % 16 * 4294967296
-      + tenths p / 281474976710656 * 281474976710656 ≡ tensOf n
-  spelt-tens = tens-are (n / 1000000) (n / 10000 % 100) (n / 100 % 100) (n % 100) p (omega arith) (omega arith) (omega arith) (omega arith) e
-
-  pub spelt-tens-few : tensOf n < 2814792619927143
-  spelt-tens-few = tens-few (n / 1000000) (n / 10000 % 100) (n / 100 % 100) (n % 100) p (omega arith) (omega arith) (omega arith) (omega arith) e
-
-  pub spelt-left : p * 256 + 3472328296227680304 ≡ tensOf n * 2559 + word (lastDigits 8 n)
-  spelt-left =
-      less-tens (n / 1000000) (n / 10000 % 100) (n / 100 % 100) (n % 100) p e ∙ ap (λ (x : ℕ). tensOf n * 2559 + x) (sym (spelt-pairs n s))
+pub less-text : (n p : ℕ) → n < 100000000 → p ≡ pairsOf n → p * 256 + 3472328296227680304
+    ≡ lanes (n / 1000000 / 10) (n / 10000 % 100 / 10) (n / 100 % 100 / 10) (n % 100 / 10) * 2559 + word (lastDigits 8 n)
+less-text n p s e = rw (spelt-pairs n s) (less-tens (n / 1000000) (n / 10000 % 100) (n / 100 % 100) (n % 100) p e)
 
 -- ---- the bytes of a word
 

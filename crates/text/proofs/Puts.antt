@@ -8,7 +8,8 @@ use native.Mathlib.Nat.{zero-add}
 use borrow.Author.Tests.{lt-ltb, le-ltb}
 use borrow.Rule.Slice.PartMut.{putMid}
 use lib.ListN.{length, take, drop, set, getD, length-append, length-drop, drop-of-length-le, length-set}
-use lib.Seq.{drop-cons, set-append-seam, take-append-seam, drop-append-seam, take-append-le, drop-append-add, drop-drop, take-all, paste-suc, getD-set-same, drop-set-lt}
+use lib.Seq.{drop-cons, set-append-seam, take-append-seam, drop-append-seam, take-append-le, drop-append-add, drop-drop, take-all}
+use lib.Seq.{paste-suc, getD-set-same, drop-set-lt}
 use Rattle.text.specs.Put.{Put, put, puts, putInto}
 use Rattle.text.specs.Digits.{lastDigits, Begun}
 

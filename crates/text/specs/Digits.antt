@@ -27,7 +27,7 @@ unfoldable pub tens : ℕ → ℕ
 tens zero = 1
 tens (suc k) = tens k * 10
 
--- bytes at the start of a part, so many, of which nothing stays but what stands four bytes past them
+-- so many bytes at the start of a part; what stands four bytes past them, and further on, stays
 pub record Begun (bytes part last : List ℕ) (count : ℕ) : Type 0 where
   pub begins : take count last ≡ bytes
   pub stays : drop (count + 4) last ≡ drop (count + 4) part

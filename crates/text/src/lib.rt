@@ -1,5 +1,6 @@
 // Text put at the start of a lent part of a block: a line, an address of the last line, its first word and its end.
 // Each writer answers how many bytes it put; a part of fewer than 32 bytes is left as it is. Rests on the text of 01, specs/Text.
+// The number of a line is spelt eight digits at once, in one word; specs/Digits has what those writers say among themselves.
 ghost use mathlib.Core.Path.{_≡_};
 ghost use mathlib.Core.List.{[], _∷_, _++_};
 ghost use Prim.Native.Nat.{_-_, _<_, _≤_};
@@ -69,7 +70,8 @@ fn put_decimal(part: &mut [u8], n: u32) -> usize
     count
 }
 
-// The four pairs of eight digits, each in sixteen bits, the first lowest.
+// The four pairs of eight digits, each in sixteen bits, the first lowest: both halves by 100 in one product, 10486 for 2^20 / 100, and from
+// 65536 times each half its hundreds, 65536 * 100 - 1 times, so that they stay below what is left.
 fn pairs(n: u32) -> u64
     requires { ⌜ n < 100000000 ⌝ }
     ensures { λ r. ⌜ r ≡ pairsOf n ⌝ }
@@ -80,7 +82,8 @@ fn pairs(n: u32) -> u64
     fours * 65536 - hundreds * 6553599
 }
 
-// The text of eight digits, each in eight bits, the first lowest.
+// The text of eight digits, each in eight bits, the first lowest: the four pairs by 10 in one product, 103 for 2^10 / 10, and from 256 times
+// each pair its tens, 256 * 10 - 1 times, over eight bytes of `0`.
 fn spelt(n: u32) -> u64
     requires { ⌜ n < 100000000 ⌝ }
     ensures { λ r. ⌜ r ≡ word (lastDigits 8 n) ⌝ }
@@ -88,7 +91,9 @@ fn spelt(n: u32) -> u64
     let pairs = pairs(n);
     let shares = pairs * 103 / 1024;
     let low = shares % 16 + shares / 65536 % 16 * 65536;
-    let tens = low + shares / 4294967296 % 16 * 4294967296 + shares / 281474976710656 * 281474976710656;
+    let tens = low
+        + shares / 4294967296 % 16 * 4294967296
+        + shares / 281474976710656 * 281474976710656;
     pairs * 256 + 3472328296227680304 - tens * 2559
 }
 
@@ -110,7 +115,7 @@ fn put_eight(part: &mut [u8], n: u32) -> usize
     8
 }
 
-// What makes eight digits of so many.
+// Times this, a number of so many digits has eight.
 fn lift(count: usize) -> u32
     requires { ⌜ 4 ≤ count ⌝ }
     ensures { λ r. ⌜ r ≡ tens (8 - count) ⌝ }
@@ -124,7 +129,7 @@ fn lift(count: usize) -> u32
     }
 }
 
-// The number of a line, for at least four bytes to follow: of those that it leaves changed, they take the place.
+// The number of a line, where at least four bytes are to follow: no more than four past the number are changed, and those take their place.
 fn put_number(part: &mut [u8], n: u32) -> usize
     requires { ⌜ 14 ≤ length (now part) ⌝ }
     ensures { λ r. ⌜ Begun (decimal n) (now (part .entry)) (now (part .exit)) r ⌝ }

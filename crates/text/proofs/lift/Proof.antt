@@ -1,6 +1,6 @@
 -- Each count that lacks digits, and the others, that lack none.
 use native.Mathlib.Omega.{arith}
-use mathlib.Core.Path.{_≡_, sym}
+use mathlib.Core.Path.{_≡_}
 use Prim.Native.Nat.{_-_}
 use Rattle.text.specs.Digits.{tens}
 use Rattle.text.proofs.lift.Statement.{statement}

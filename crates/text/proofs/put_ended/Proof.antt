@@ -1,8 +1,7 @@
 -- The digits, and one byte more.
-use mathlib.Core.List.{[], _∷_, _++_}
-use mathlib.Core.Path.{ap}
 use Prim.Native.Nat.{ℕ, _+_}
-use mathlib.Core.List.{List}
+use mathlib.Core.List.{List, [], _∷_, _++_}
+use mathlib.Core.Path.{ap}
 use native.Mathlib.Omega.{arith}
 use lib.ListN.{length-set}
 use Rattle.text.proofs.Puts.{put-one, put-byte, puts-same}

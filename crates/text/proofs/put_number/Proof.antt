@@ -3,7 +3,7 @@ use Prim.Native.Nat.{_*_}
 use native.Mathlib.Omega.{arith}
 use Rattle.text.specs.Text.{decimal}
 use Rattle.text.specs.Digits.{lastDigits}
-use Rattle.text.proofs.Decimal.{decimal-length, eight-fits, eight-begins, length-last}
+use Rattle.text.proofs.Decimal.{eight-fits, eight-begins, length-last}
 use Rattle.text.proofs.Puts.{begun, begun-all}
 use borrow.Author.Needs.{needs}
 use Rattle.text.proofs.put_number.Statement.{statement}

@@ -1,7 +1,6 @@
 -- The tens of all four pairs at once, and what is left of them.
 use native.Mathlib.Omega.{arith}
-use Prim.Native.Nat.{ℕ, _*_, _+_, _<_}
-use Rattle.text.proofs.Lanes.{left-is, left-some, spelt-few, spelt-tens, spelt-tens-few, spelt-left}
+use Rattle.text.proofs.Lanes.{left-is, left-some, paired, pairs-few, tens-are, tens-few, less-text}
 use borrow.Author.Needs.{needs}
 use Rattle.text.proofs.spelt.Statement.{statement}
 use Rattle.text.proofs.spelt.Tie as tie
@@ -10,7 +9,7 @@ pairs-requires : tie.Need-pairs-requires
 pairs-requires c κs = search needs
 
 mul-shares : tie.Need-mul-shares
-mul-shares c = omega (arith, spelt-few (c .before .args .n) _ (c .before .pre) (c .pairs .ensures))
+mul-shares c = omega (arith, pairs-few _ _ _ _ _ (paired (c .before .args .n) _ (c .before .pre) (c .pairs .ensures)))
 
 mul-low : tie.Need-mul-low
 mul-low c = search needs
@@ -31,19 +30,25 @@ add-tens-2 : tie.Need-add-tens-2
 add-tens-2 c = search needs
 
 mul-result : tie.Need-mul-result
-mul-result c = omega (arith, spelt-few (c .before .args .n) _ (c .before .pre) (c .pairs .ensures))
+mul-result c = omega (arith, pairs-few _ _ _ _ _ (paired (c .before .args .n) _ (c .before .pre) (c .pairs .ensures)))
 
 add-result : tie.Need-add-result
-add-result c = omega (arith, spelt-few (c .before .args .n) _ (c .before .pre) (c .pairs .ensures))
+add-result c = omega (arith, pairs-few _ _ _ _ _ (paired (c .before .args .n) _ (c .before .pre) (c .pairs .ensures)))
 
 mul-result-2 : tie.Need-mul-result-2
-mul-result-2 c = rw (spelt-tens (c .before .args .n) (c .pairs .result) (c .before .pre) (c .pairs .ensures)) (omega (arith, spelt-tens-few (c .before .args .n) (c .pairs .result) (c .before .pre) (c .pairs .ensures)))
+mul-result-2 c =
+    let q = paired (c .before .args .n) _ (c .before .pre) (c .pairs .ensures) in
+    rw (tens-are _ _ _ _ _ q) (omega (arith, tens-few _ _ _ _ _ q))
 
 sub-result : tie.Need-sub-result
-sub-result c = rw (spelt-tens (c .before .args .n) (c .pairs .result) (c .before .pre) (c .pairs .ensures)) (left-some _ _ _ (spelt-left (c .before .args .n) (c .pairs .result) (c .before .pre) (c .pairs .ensures)))
+sub-result c =
+    let q = paired (c .before .args .n) _ (c .before .pre) (c .pairs .ensures) in
+    rw (tens-are _ _ _ _ _ q) (left-some _ _ _ (less-text (c .before .args .n) _ (c .before .pre) (c .pairs .ensures)))
 
 returns : tie.Need-returns
-returns c = rw (spelt-tens (c .before .args .n) (c .pairs .result) (c .before .pre) (c .pairs .ensures)) (left-is _ _ _ (spelt-left (c .before .args .n) (c .pairs .result) (c .before .pre) (c .pairs .ensures)))
+returns c =
+    let q = paired (c .before .args .n) _ (c .before .pre) (c .pairs .ensures) in
+    rw (tens-are _ _ _ _ _ q) (left-is _ _ _ (less-text (c .before .args .n) _ (c .before .pre) (c .pairs .ensures)))
 
 pub spelt-spec : {M : Type 1} → statement M
 spelt-spec =
