@@ -9,7 +9,7 @@ use Rattle.record.specs.Record.{_▸_, _with_, to, pred≔, curr≔, succ≔, I
 use Rattle.record.specs.declared.Node.{Node}
 use Rattle.record.specs.declared.Process.{Process}
 use Rattle.record.specs.declared.Record.{Record}
-use Rattle.record.specs.declared.Outcome.the-variants.{Accepted}
+use Rattle.record.specs.declared.Outcome.the-variants.{Refused, Accepted}
 use Rattle.table.specs.Words.{Memory, memory, targetOf, isMarked, inUse, below, equal}
 use Rattle.table.specs.Places.{Next, goes, usesOwn, curr, own, placeOf, row, searchEnds}
 use Rattle.table.specs.Steps.{usable, ownUsable, recordAfter}
@@ -17,10 +17,11 @@ use Rattle.words.specs.Lent.{orderOf}
 use Rattle.words.specs.declared.Order.{Order}
 use Rattle.words.specs.declared.Sizes.{Sizes}
 use Rattle.list.specs.declared.access.Read.{Read}
+use Rattle.list.specs.declared.Acted.{Acted}
 use Rattle.list.specs.declared.search.Goal.{Goal}
 use Rattle.list.specs.Acting.{left}
 use Rattle.list.specs.Parts.{StandsAt, turnOf, answered, stepped, readOf, goalOf}
-use Rattle.list.proofs.Turns.{read-link-own, read-link, own-record}
+use Rattle.list.proofs.Turns.{left-unless, read-link-own, read-link, own-record}
 
 -- the record and the use of own that follow from the tests of row 1
 module _ (used : Node → Bool) (r : Record) where
@@ -74,6 +75,21 @@ module _ (r : Record) (target : Node) where
   scan-chooses false false false at-own false true = refl
   scan-chooses false false false at-own false false = refl
 
+-- where the step does not fit, each field chosen is the one that was there
+scan-left : (r : Record) (fits mark low : Bool) (target : Node) (place answer : ℕ) →
+    (let onto = cond fits target (r .lost .succ) in
+    cond (fits && not mark && low) (r ▸ succ≔ onto ▸ pred≔ (r .lost .curr) ▸ curr≔ onto) (r ▸ succ≔ onto)
+    ▸ cond fits place (r .lost .place) with cond fits answer (r .lost .pending)) ≡
+    cond fits (cond (not mark && low) (onward r target) (found r target) ▸ place with answer) r
+scan-left r true mark low target place answer = refl
+scan-left r false mark low target place answer = refl
+
+walk-left : (r : Record) (fits : Bool) (target : Node) (place answer : ℕ) →
+    (r ▸ curr≔ (cond fits target (r .lost .curr)) ▸ cond fits place (r .lost .place) with cond fits answer (r .lost .pending)) ≡
+    cond fits (r ▸ curr≔ target ▸ place with answer) r
+walk-left r true target place answer = refl
+walk-left r false target place answer = refl
+
 -- the same of row 11, by the order, and of row 13, by what the record holds
 walk-chooses : (r : Record) (target : Node) (low same : Bool) →
     (r ▸ curr≔ target ▸ cond low 11 (cond same 12 19) with cond (low || same) (r .lost .pending) 1) ≡
@@ -107,18 +123,19 @@ module _ (addresses links deleters : List ℕ) (sizes : Sizes) (p : Process) (r 
   own-is found is = rw is (own-ends (inUse m) r (r .lost .recovering) (eqb (r .kept .kind) Inserts) _ _ _)
 
   -- row 1, of what its calls hand back
-  pub scanned : StandsAt 1 r → (usable-curr : Bool) (read : Read) (order : Order) (ends : Goal) →
+  abbrev fitsWith : Read → Order → Bool
+  fitsWith read order = read .accepted && (((read .mark || order .below) || not (r .lost .recovering)) || usable (inUse m) r own)
+
+  scan : StandsAt 1 r → (usable-curr : Bool) (read : Read) (order : Order) (ends : Goal) →
       usable-curr ≡ inUse m (r .lost .curr) →
       read ≡ readOf sizes usable-curr word →
       order ≡ orderOf addresses (r .lost .curr) (r .kept .address) →
       ends ≡ goalOf (r .lost .recovering) (eqb (r .lost .curr .0) (r .kept .node .0)) (eqb (r .kept .kind) 0) (order .equal) (r .lost .pending) →
       left addresses links deleters
-      (turnOf
-      (read .accepted && (((read .mark || order .below) || not (r .lost .recovering)) || usable (inUse m) r own))
-      sizes r (chosen r (read .target) (read .mark) (order .below) ends))
+      (turnOf (fitsWith read order) sizes r (chosen r (read .target) (read .mark) (order .below) ends))
       ≡ stepped addresses links deleters sizes p r
   unfolding row placeOf searchEnds readOf orderOf
-  scanned at usable-curr read order ends u k o e =
+  scan at usable-curr read order ends u k o e =
       rw (e, k, o, u)
       (read-link-own addresses links deleters sizes p r 1 at curr _ _ _ refl
       (ap (λ x. inUse m (r .lost .curr) && inUse m (targetOf word) && x)
@@ -126,22 +143,59 @@ module _ (addresses links deleters : List ℕ) (sizes : Sizes) (p : Process) (r 
       ∙ rw (own-is _ refl) (own-scans (inUse m) r (isMarked word) low _ _ _)))
       (scan-chooses r (targetOf word) (isMarked word) low (r .lost .recovering) _ _ _))
 
+  pub scanned : StandsAt 1 r → (usable-curr own-used : Bool) (read : Read) (order : Order) (ends : Goal) (low-place next-place next-answer : ℕ)
+      (onto : Node) (place answer : ℕ) (x : Record) (a : Acted) →
+      usable-curr ≡ inUse m (r .lost .curr) →
+      read ≡ readOf sizes usable-curr word →
+      order ≡ orderOf addresses (r .lost .curr) (r .kept .address) →
+      ends ≡ goalOf (r .lost .recovering) (eqb (r .lost .curr .0) (r .kept .node .0)) (eqb (r .kept .kind) 0) (order .equal) (r .lost .pending) →
+      low-place ≡ cond (order .below) 1 (ends .place) →
+      next-place ≡ cond (read .mark) 2 low-place →
+      next-answer ≡ cond (read .mark || order .below) (r .lost .pending) (ends .answer) →
+      own-used ≡ usable (inUse m) r own →
+      (let fits = read .accepted && (((read .mark || order .below) || not (r .lost .recovering)) || own-used) in
+      onto ≡ cond fits (read .target) (r .lost .succ) →
+      place ≡ cond fits next-place (r .lost .place) →
+      answer ≡ cond fits next-answer (r .lost .pending) →
+      x ≡ (cond (fits && not (read .mark) && order .below) (r ▸ succ≔ onto ▸ pred≔ (r .lost .curr) ▸ curr≔ onto) (r ▸ succ≔ onto) ▸ place with answer) →
+      a ≡ answered sizes x (cond fits Accepted (Refused 8)) →
+      left addresses links deleters a ≡ stepped addresses links deleters sizes p r)
+  scanned at usable-curr own-used read order ends low-place next-place next-answer onto place answer x a u k o e l n w h t q v made is =
+      rw (is, made, v, q, t, h, w, n, l)
+      (ap (left addresses links deleters)
+      (ap (λ x. answered sizes x (cond (fitsWith read order) Accepted (Refused 8)))
+      (scan-left r (fitsWith read order) (read .mark) (order .below) (read .target) _ _)
+      ∙ left-unless (fitsWith read order) sizes r _)
+      ∙ scan at usable-curr read order ends u k o e)
+
   -- row 11
+  abbrev walkFits : Bool
+  walkFits = inUse m (r .lost .curr) && inUse m (targetOf word)
+
+  abbrev under : Node → Bool
+  under target = below addresses target (r .kept .address)
+
+  abbrev same : Node → Bool
+  same target = equal addresses target (r .kept .address)
+
   pub walks : StandsAt 11 r →
       (let target = targetOf word in
-      let under = below addresses target (r .kept .address) in
-      let same = equal addresses target (r .kept .address) in
       left addresses links deleters
-      (turnOf (inUse m (r .lost .curr) && inUse m target) sizes r
-      (r ▸ curr≔ target ▸ cond under 11 (cond same 12 19) with cond (under || same) (r .lost .pending) 1)) ≡
+      (answered sizes
+      (r ▸ curr≔ (cond walkFits target (r .lost .curr))
+      ▸ cond walkFits (cond (under target) 11 (cond (same target) 12 19)) (r .lost .place)
+      with cond walkFits (cond (under target || same target) (r .lost .pending) 1) (r .lost .pending))
+      (cond walkFits Accepted (Refused 8))) ≡
       stepped addresses links deleters sizes p r)
   unfolding row placeOf
-  walks at = read-link addresses links deleters sizes p r 11 at curr _
-      (λ r target mark.
-      let under = below addresses target (r .kept .address) in
-      let same = equal addresses target (r .kept .address) in
-      r ▸ curr≔ target ▸ cond under 11 (cond same 12 19) with cond (under || same) (r .lost .pending) 1) refl
-      (λ target mark. walk-chooses r target (below addresses target (r .kept .address)) (equal addresses target (r .kept .address)))
+  walks at =
+      ap (left addresses links deleters)
+      (ap (λ x. answered sizes x (cond walkFits Accepted (Refused 8))) (walk-left r walkFits (targetOf word) _ _)
+      ∙ left-unless walkFits sizes r _)
+      ∙ read-link addresses links deleters sizes p r 11 at curr _
+      (λ x target mark. x ▸ curr≔ target ▸ cond (under target) 11 (cond (same target) 12 19) with
+      cond (under target || same target) (x .lost .pending) 1) refl
+      (λ target mark. walk-chooses r target (under target) (same target))
 
   -- row 13
   pub resumed : StandsAt 13 r →

@@ -8,7 +8,7 @@ use lib.ListN.{getD, set}
 use Rattle.record.specs.declared.Node.{Node}
 use Rattle.record.specs.declared.Process.{Process}
 use Rattle.record.specs.declared.Record.{Record}
-use Rattle.record.specs.declared.Outcome.the-variants.{Accepted, Answered}
+use Rattle.record.specs.declared.Outcome.the-variants.{Refused, Accepted, Answered}
 use Rattle.table.specs.Words.{Memory, memory, linkAt, deleterAt, targetOf, isMarked, inUse, written, deleterWord, noDeleter}
 use Rattle.table.specs.Words.{nothing, linkIs, deleterIs}
 use Rattle.table.specs.Places.{Field, Link, Row, Next, goes, nodeOf, linkOf, placeOf, row}
@@ -46,6 +46,13 @@ own-idle : (a b : Bool) → (a && b && true) ≡ (a && b)
 own-idle true true = refl
 own-idle true false = refl
 own-idle false b = refl
+
+-- a record that was left as it was where the step does not fit
+pub left-unless : (fits : Bool) (sizes : Sizes) (r after : Record) →
+    answered sizes (cond fits after r) (cond fits Accepted (Refused 8)) ≡ turnOf fits sizes r after
+unfolding turnOf
+left-unless true sizes r after = refl
+left-unless false sizes r after = refl
 
 -- what holds of both answers of a test
 pub bools : (P : Bool → Type 0) → P true → P false → (b : Bool) → P b

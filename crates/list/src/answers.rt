@@ -4,6 +4,7 @@ ghost use mathlib.Core.Bool.{cond};
 ghost use Rattle.record.specs.declared.Outcome.the-variants.{Refused, Accepted};
 ghost use Rattle.list.specs.Parts.{answered, turnOf};
 use crate::Acted;
+use record::Node;
 use record::Outcome;
 use record::Record;
 use words::Sizes;
@@ -20,6 +21,16 @@ pub(crate) fn pick(first: bool, one: u8, other: u8) -> u8
 
 // The one record or the other.
 pub(crate) fn either(first: bool, one: Record, other: Record) -> Record
+    ensures { λ r. ⌜ r ≡ cond first one other ⌝ }
+{
+    if first {
+        return one;
+    }
+    other
+}
+
+// The one node or the other.
+pub(crate) fn node(first: bool, one: Node, other: Node) -> Node
     ensures { λ r. ⌜ r ≡ cond first one other ⌝ }
 {
     if first {
@@ -58,4 +69,25 @@ pub(crate) fn turn(fits: bool, sizes: Sizes, old: Record, after: Record) -> Acte
         return accepted(sizes, after);
     }
     refused(sizes, old, 8)
+}
+
+// The outcome of a step that is accepted, or refused with 8.
+fn outcome(fits: bool) -> Outcome
+    ensures { λ r. ⌜ r ≡ cond fits Accepted (Refused 8) ⌝ }
+{
+    if fits {
+        return Outcome::Accepted;
+    }
+    Outcome::Refused(8)
+}
+
+// The same of a record that was left as it was where the step does not fit: the rows of a walk choose field by field, and copy no record to choose.
+pub(crate) fn judged(fits: bool, sizes: Sizes, left: Record) -> Acted
+    ensures { λ r. ⌜ r ≡ answered sizes left (cond fits Accepted (Refused 8)) ⌝ }
+{
+    Acted {
+        advanced: left,
+        sizes,
+        outcome: outcome(fits),
+    }
 }

@@ -20,15 +20,16 @@ pub(crate) fn row_11(addresses: &[u32], links: &[u32], sizes: Sizes, old: Record
     let curr = old.lost.curr;
     let pending = old.lost.pending;
     let read = access::read_link(links, sizes, words::in_use(curr, sizes.count), curr);
+    let fits = read.accepted;
     let order = words::compare(addresses, read.target, old.kept.address);
     let place = answers::pick(order.below, 11, answers::pick(order.equal, 12, 19));
     let answer = answers::pick(order.below | order.equal, pending, 1);
-    answers::turn(
-        read.accepted,
-        sizes,
-        old,
-        old.walked(read.target, place, answer),
-    )
+    let left = old.walked(
+        answers::node(fits, read.target, curr),
+        answers::pick(fits, place, old.lost.place),
+        answers::pick(fits, answer, pending),
+    );
+    answers::judged(fits, sizes, left)
 }
 
 // Place 12: read curr's link.

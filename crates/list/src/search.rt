@@ -90,8 +90,14 @@ pub(crate) fn row_1(addresses: &[u32], links: &[u32], sizes: Sizes, old: Record)
     let place = answers::pick(read.mark, 2, answers::pick(order.below, 1, ends.place));
     let answer = answers::pick(passes, pending, ends.answer);
     let own_fits = passes | !recovering | access::own_in_use(own, sizes.count);
-    let after = old.scans(read.target, !read.mark & order.below, place, answer);
-    answers::turn(read.accepted & own_fits, sizes, old, after)
+    let fits = read.accepted & own_fits;
+    let left = old.scans(
+        answers::node(fits, read.target, old.lost.succ),
+        fits & !read.mark & order.below,
+        answers::pick(fits, place, old.lost.place),
+        answers::pick(fits, answer, pending),
+    );
+    answers::judged(fits, sizes, left)
 }
 
 // Place 2: swap pred's link from curr to succ.

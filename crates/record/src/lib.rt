@@ -13,22 +13,22 @@ pub struct Process(pub u32);
 // A claimed address: any 32-bit number.
 pub struct Address(pub u32);
 
-// What a stop loses.
+// What a stop loses. Here and below the small fields come last, so that a record is copied in whole words; 01's order is that of `lostPart`.
 pub struct Lost {
-    pub place: u8,
     pub pred: Node,
     pub curr: Node,
     pub succ: Node,
+    pub place: u8,
     pub pending: u8,
     pub recovering: bool,
 }
 
 // What a stop keeps.
 pub struct Kept {
-    pub status: u8,
-    pub kind: u8,
     pub address: Address,
     pub node: Node,
+    pub status: u8,
+    pub kind: u8,
     pub result: u8,
 }
 

@@ -24,17 +24,26 @@ pick-requires-2 c κs = search needs
 pick-requires-3 : tie.Need-pick-requires-3
 pick-requires-3 c κs = search needs
 
+node-requires : tie.Need-node-requires
+node-requires c κs = search needs
+
+pick-requires-4 : tie.Need-pick-requires-4
+pick-requires-4 c κs = search needs
+
+pick-requires-5 : tie.Need-pick-requires-5
+pick-requires-5 c κs = search needs
+
 walked-requires : tie.Need-walked-requires
 walked-requires c κs = search needs
 
-turn-requires : tie.Need-turn-requires
-turn-requires c κs = search needs
+judged-requires : tie.Need-judged-requires
+judged-requires c κs = search needs
 
 returns : tie.Need-returns
 unfolding readOf orderOf
 returns c deleters p =
-    rw (c .turn .ensures, c .before .walked .ensures, c .before .before .pick3 .ensures, c .before .before .before .before .pick2 .ensures, c .before .before .before .before .before .pick .ensures, c .before .before .before .before .before .before .compare .ensures, c .before .before .before .before .before .before .before .read-link .ensures, c .before .before .before .before .before .before .before .before .in-use .ensures)
-    (walks _ _ deleters _ p _ (c .before .before .before .before .before .before .before .before .before .before .before .before .pre))
+    rw (c .judged .ensures, c .before .walked .ensures, c .before .before .pick5 .ensures, c .before .before .before .pick4 .ensures, c .before .before .before .before .node .ensures, c .before .before .before .before .before .pick3 .ensures, c .before .before .before .before .before .before .before .pick2 .ensures, c .before .before .before .before .before .before .before .before .pick .ensures, c .before .before .before .before .before .before .before .before .before .compare .ensures, c .before .before .before .before .before .before .before .before .before .before .read-link .ensures, c .before .before .before .before .before .before .before .before .before .before .before .in-use .ensures)
+    (walks _ _ deleters _ p _ (c .before .before .before .before .before .before .before .before .before .before .before .before .before .before .before .pre))
 
 pub row-11-spec : {M : Type 1} → statement M
 row-11-spec =
@@ -46,6 +55,9 @@ row-11-spec =
     pick-requires
     pick-requires-2
     pick-requires-3
+    node-requires
+    pick-requires-4
+    pick-requires-5
     walked-requires
-    turn-requires
+    judged-requires
     returns)

@@ -28,16 +28,37 @@ pick-requires-3 c κs = search needs
 own-in-use-requires : tie.Need-own-in-use-requires
 own-in-use-requires c κs = search needs
 
+node-requires : tie.Need-node-requires
+node-requires c κs = search needs
+
+pick-requires-4 : tie.Need-pick-requires-4
+pick-requires-4 c κs = search needs
+
+pick-requires-5 : tie.Need-pick-requires-5
+pick-requires-5 c κs = search needs
+
 scans-requires : tie.Need-scans-requires
 scans-requires c κs = search needs
 
-turn-requires : tie.Need-turn-requires
-turn-requires c κs = search needs
+judged-requires : tie.Need-judged-requires
+judged-requires c κs = search needs
 
 returns : tie.Need-returns
 returns c deleters p =
-    rw (c .turn .ensures, c .before .before .scans .ensures, c .before .before .before .before .before .own-in-use .ensures, c .before .before .before .before .before .before .pick3 .ensures, c .before .before .before .before .before .before .before .pick2 .ensures, c .before .before .before .before .before .before .before .before .pick .ensures)
-    (scanned _ _ deleters _ p _ (c .before .before .before .before .before .before .before .before .before .before .before .before .before .before .before .before .before .before .before .before .before .before .pre) _ _ _ _ (c .before .before .before .before .before .before .before .before .before .before .before .before .before .before .before .before .before .in-use .ensures) (c .before .before .before .before .before .before .before .before .before .before .before .before .before .before .before .before .read-link .ensures) (c .before .before .before .before .before .before .before .before .before .before .before .before .before .before .before .compare .ensures) (c .before .before .before .before .before .before .before .before .before .before .before .search-ends .ensures))
+    scanned _ _ deleters _ p _ (c .before .before .before .before .before .before .before .before .before .before .before .before .before .before .before .before .before .before .before .before .before .before .before .before .before .pre) _ _ _ _ _ _ _ _ _ _ _ _ _
+    (c .before .before .before .before .before .before .before .before .before .before .before .before .before .before .before .before .before .before .before .before .in-use .ensures)
+    (c .before .before .before .before .before .before .before .before .before .before .before .before .before .before .before .before .before .before .before .read-link .ensures)
+    (c .before .before .before .before .before .before .before .before .before .before .before .before .before .before .before .before .before .before .compare .ensures)
+    (c .before .before .before .before .before .before .before .before .before .before .before .before .before .before .search-ends .ensures)
+    (c .before .before .before .before .before .before .before .before .before .before .before .pick .ensures)
+    (c .before .before .before .before .before .before .before .before .before .before .pick2 .ensures)
+    (c .before .before .before .before .before .before .before .before .before .pick3 .ensures)
+    (c .before .before .before .before .before .before .before .before .own-in-use .ensures)
+    (c .before .before .before .before .before .before .node .ensures)
+    (c .before .before .before .pick4 .ensures)
+    (c .before .before .pick5 .ensures)
+    (c .before .scans .ensures)
+    (c .judged .ensures)
 
 pub row-1-spec : {M : Type 1} → statement M
 row-1-spec =
@@ -51,6 +72,9 @@ row-1-spec =
     pick-requires-2
     pick-requires-3
     own-in-use-requires
+    node-requires
+    pick-requires-4
+    pick-requires-5
     scans-requires
-    turn-requires
+    judged-requires
     returns)
