@@ -38,16 +38,16 @@ shows (run nodes processes before events) =
 
 -- ---- the words of the examples
 
-abbrev insert : ℕ → ℕ → Event
+abbrev pub insert : ℕ → ℕ → Event
 insert p a = Insert (process p) (address a)
 
-abbrev delete : ℕ → ℕ → Event
+abbrev pub delete : ℕ → ℕ → Event
 delete p a = Delete (process p) (address a)
 
 abbrev find : ℕ → ℕ → Event
 find p a = Find (process p) (address a)
 
-abbrev steps : ℕ → ℕ → List Event
+abbrev pub steps : ℕ → ℕ → List Event
 steps p n = replicate n (Step (process p))
 
 abbrev stop : ℕ → Event
