@@ -19,7 +19,7 @@ use Rattle.chain.specs.declared.Met.the-variants.{Next}
 use Rattle.chain.specs.declared.Keys.the-variants.{Read, Refused}
 use Rattle.chain.specs.Walking.{onwardFrom}
 use Rattle.chain.specs.Keys.{Left, left, lastOf, readKeys, keysOf}
-use Rattle.chain.proofs.Walks.{GoesOn, met-next, walk-goes, walk-stops, Stops, walk-no-deleters}
+use Rattle.chain.proofs.Walks.{met-next, walk-goes, walk-stops, Stops, walk-no-deleters}
 
 -- ---- lists: what is known of l where a part of it begins with x
 
@@ -126,7 +126,7 @@ module _ (m : Memory) (before buffer : List ℕ) (from : Node) (read : ℕ) (w :
 
   pub walked-ends : (met : Met) → met ≡ onwardFrom m from → Stops met → left buffer (Read read met) ≡ readKeys m before
   walked-ends met e stops =
-      let none : drop read (chain m) ≡ [] = sym (w .ahead) ∙ walk-stops (aboveAll - read) m from (rw e at stops) in
+      let none : drop read (chain m) ≡ [] = sym (w .ahead) ∙ walk-stops m from (aboveAll - read) (rw e at stops) in
       let short : length (drop read (chain m)) ≡ 0 = ap length none in
       let most : length (chain m) ≤ read = omega (arith, length-drop read (chain m)) in
       ends met e (λ A l same. take-all (length before) l (omega (arith, w .room)) ∙ sym (take-all read l (omega arith)))

@@ -1,60 +1,48 @@
 -- Laws of the walk along the chain: what it meets after a node decides how it goes on, and it never runs out of steps. Rests on the tests alone.
 use mathlib.Core.Path.{_≡_, refl, sym, _∙_, ap, subst}
 use mathlib.Core.Logic.{_≢_}
-use mathlib.Core.Bool.{Bool, true, false, cond, not, _&&_, false≢true}
+use mathlib.Core.Bool.{Bool, true, false, not, _&&_, false≢true}
 use mathlib.Core.List.{List, [], _∷_}
-use Prim.Native.Nat.{ℕ, zero, suc, _≤_, _<_, _+_, _/_}
+use Prim.Native.Nat.{ℕ, zero, suc, _≤_, _<_, _+_}
 use native.Mathlib.Omega.{arith}
 use lib.Dec.{ltb, eqb}
-use lib.ListN.{length, getD, List·getD-eq-default}
-use borrow.Author.Tests.{ltb-true, eqb-false}
+use lib.ListN.{getD}
+use borrow.Author.Tests.{ltb-true, eqb-false, lt-ltb, le-ltb, eq-eqb, ne-eqb}
 use denote.Enum.Declared.{tagOf}
 use types.Run.{OneOf, miss}
-use Rattle.record.specs.Record.{node, headNode, address}
+use Rattle.record.specs.Record.{headNode, address}
 use Rattle.record.specs.declared.Node.{Node}
 use Rattle.table.specs.Words.{Memory, memory, addressAt, linkAt, targetOf, inUse, rank, aboveAll}
 use Rattle.table.specs.Chain.{goesOn, walk, chain}
-use Rattle.table.proofs.Tests.{if, if-eq, and-left, and-right}
+use Rattle.table.proofs.Tests.{if-eq, and-left, and-right}
 use Rattle.chain.specs.declared.Met.{Met}
 use Rattle.chain.specs.declared.Met.the-variants.{Next, Tail, NotInUse, NotAbove}
 use Rattle.chain.specs.declared.Walked.the-variants.{Onto, Ends}
 use Rattle.chain.proofs.Met.{the-type}
-use Rattle.chain.specs.Walking.{onwardFrom, walkedFrom}
-
--- a table reads as 0 past its end
-pub past-end : (words : List ℕ) (n : ℕ) → length words ≤ n → 0 ≡ getD words n 0
-past-end words n h = sym (List·getD-eq-default words 0 h)
+use Rattle.chain.specs.Walking.{metOf, onwardFrom, walkedFrom}
 
 -- ---- what the code's tests tell
 
--- what the tests tell of a target, in the code's order
-abbrev pub judged : (count : ℕ) → Node → (from to : ℕ) → Met
-judged count target from to =
-    cond (eqb (target .0) 1) Tail (cond (ltb (target .0) count) (cond (ltb from to) (Next target) NotAbove) NotInUse)
+pub met-tail : (onto : Node) (tail used above : Bool) → tail ≡ true → Tail ≡ metOf onto tail used above
+met-tail onto tail used above e = rw e
 
-same-tests : (x : Met) (tail used above : Bool) →
-    cond tail Tail (cond used (cond above x NotAbove) NotInUse)
-    ≡ cond (not tail && used && above) x (cond tail Tail (cond used NotAbove NotInUse))
-same-tests x true used above = refl
-same-tests x false true true = refl
-same-tests x false true false = refl
-same-tests x false false above = refl
+pub met-unused : (onto : Node) (tail used above : Bool) → tail ≡ false → used ≡ false → NotInUse ≡ metOf onto tail used above
+met-unused onto tail used above e f = rw (e, f)
 
-judged-onward : (m : Memory) (from : Node) →
-    let target = targetOf (linkAt m from) in
-    judged (m .count) target (rank (m .addresses) from) (rank (m .addresses) target) ≡ onwardFrom m from
-unfolding onwardFrom
-judged-onward m from =
-    let target = targetOf (linkAt m from) in
-    same-tests (Next target) (eqb (target .0) 1) (inUse m target) (ltb (rank (m .addresses) from) (rank (m .addresses) target))
+pub met-not-above : (onto : Node) (tail used above : Bool) → tail ≡ false → used ≡ true → above ≡ false → NotAbove ≡ metOf onto tail used above
+met-not-above onto tail used above e f g = rw (e, f, g)
+
+pub met-above : (onto : Node) (tail used above : Bool) → tail ≡ false → used ≡ true → above ≡ true → Next onto ≡ metOf onto tail used above
+met-above onto tail used above e f g = rw (e, f, g)
+
+pub ruleset mets = (met-tail, met-unused, met-not-above, met-above, lt-ltb, le-ltb, eq-eqb, ne-eqb)
 
 -- the words that the code read are known by equations
-pub onward-told : (addresses links : List ℕ) (count : ℕ) (from : Node) (word at to : ℕ) (x : Met) →
-    x ≡ judged count (node (word / 2)) at to → word ≡ getD links (from .0) 0 → at ≡ rank addresses from
-    → to ≡ rank addresses (node (word / 2)) → x ≡ onwardFrom (memory addresses links [] count) from
-unfolding linkAt
-onward-told addresses links count from word at to x told e h k =
-    told ∙ rw (h, k, e) (judged-onward (memory addresses links [] count) from)
+pub onward-told : (addresses links : List ℕ) (count : ℕ) (from target : Node) (word at to : ℕ) (used : Bool) (x : Met) →
+    x ≡ metOf target (eqb (target .0) 1) used (ltb at to) → target ≡ targetOf word → word ≡ getD links (from .0) 0 → used ≡ ltb (target .0) count
+    → at ≡ rank addresses from → to ≡ rank addresses target → x ≡ onwardFrom (memory addresses links [] count) from
+unfolding onwardFrom linkAt
+onward-told addresses links count from target word at to used x told is e u h k = told ∙ rw (u, h, k, is, e)
 
 -- ---- the walk goes on as it meets
 
@@ -69,10 +57,12 @@ not-true : (b : Bool) → not b ≡ true → b ≡ false
 not-true true e = absurd (false≢true e)
 not-true false e = refl
 
-never-next : (tail used : Bool) (n : Node) → cond tail Tail (cond used NotAbove NotInUse) ≡ Next n → ⊥
-never-next true used n e = let z : _≡_ {A = ℕ} 0 1 = cc in omega arith
-never-next false true n e = let z : _≡_ {A = ℕ} 0 1 = cc in omega arith
-never-next false false n e = let z : _≡_ {A = ℕ} 0 1 = cc in omega arith
+-- a next node is met where all three tests tell so, and it is the target
+only-next : (onto n : Node) (tail used above : Bool) → metOf onto tail used above ≡ Next n → ((not tail && used && above) ≡ true) × (onto ≡ n)
+only-next onto n true used above e = absurd (let z : _≡_ {A = ℕ} 0 1 = cc in omega arith)
+only-next onto n false false above e = absurd (let z : _≡_ {A = ℕ} 0 1 = cc in omega arith)
+only-next onto n false true false e = absurd (let z : _≡_ {A = ℕ} 0 1 = cc in omega arith)
+only-next onto n false true true e = (refl, cc)
 
 -- the nodes after a node, where the walk goes on
 abbrev ahead : Bool → List Node → List Node
@@ -108,9 +98,7 @@ module _ (m : Memory) (from : Node) where
 
     next-goes : onwardFrom m from ≡ Next onto → Goes
     unfolding onwardFrom
-    next-goes =
-        if (λ x. x ≡ Next onto → Goes) (goesOn m from target) (λ yes e. (yes, cc))
-        (λ no e. absurd (never-next (eqb (target .0) 1) (inUse m target) onto e))
+    next-goes = only-next target onto (eqb (target .0) 1) (inUse m target) (ltb (rank (m .addresses) from) (rank (m .addresses) target))
 
     pub met-next : onwardFrom m from ≡ Next onto → GoesOn m from onto
     met-next e = subst (λ n. GoesOn m from n) (next-goes e .1) (goes-on (next-goes e .0))
@@ -124,32 +112,36 @@ module _ (m : Memory) (from : Node) where
 abbrev pub Stops : Met → Type 0
 Stops x = OneOf (1 ∷ 2 ∷ 3 ∷ []) (tagOf the-type x)
 
-stopped : (b : Bool) (n : Node) (x : Met) → Stops (cond b (Next n) x) → b ≡ false
-stopped true n x h = absurd (miss (1 ∷ 2 ∷ 3 ∷ []) 0 tt h)
-stopped false n x h = refl
+only-stops : (onto : Node) (tail used above : Bool) → Stops (metOf onto tail used above) → (not tail && used && above) ≡ false
+only-stops onto true used above h = refl
+only-stops onto false false above h = refl
+only-stops onto false true false h = refl
+only-stops onto false true true h = absurd (miss (1 ∷ 2 ∷ 3 ∷ []) 0 tt h)
 
-pub walk-stops : (k : ℕ) (m : Memory) (from : Node) → Stops (onwardFrom m from) → walk k m from ≡ []
-unfolding walk onwardFrom
-walk-stops zero m from stops = refl
-walk-stops (suc k) m from stops =
-    let onto = targetOf (linkAt m from) in
-    ap (λ on. ahead on (onto ∷ walk k m onto))
-    (stopped (goesOn m from onto) onto (cond (eqb (onto .0) 1) Tail (cond (inUse m onto) NotAbove NotInUse)) stops)
+module _ (m : Memory) (from : Node) where
+  stopped : Stops (onwardFrom m from) → goesOn m from (target m from) ≡ false
+  unfolding onwardFrom
+  stopped =
+      let onto = target m from in
+      only-stops onto (eqb (onto .0) 1) (inUse m onto) (ltb (rank (m .addresses) from) (rank (m .addresses) onto))
 
--- ---- a walk's next node, with its address
+  pub walk-stops : (k : ℕ) → Stops (onwardFrom m from) → walk k m from ≡ []
+  unfolding walk
+  walk-stops zero stops = refl
+  walk-stops (suc k) stops = ap (λ on. ahead on (target m from ∷ walk k m (target m from))) (stopped stops)
 
-pub walked-onto : (m : Memory) (from onto : Node) (met : Met) (word : ℕ) → met ≡ onwardFrom m from → met ≡ Next onto → word ≡ addressAt m onto
-    → Onto onto (address word) ≡ walkedFrom m from
-unfolding walkedFrom
-walked-onto m from onto met word told next e =
-    let goes = next-goes m from onto (sym told ∙ next) in
-    rw (e, goes .0, sym (goes .1))
+  -- ---- a walk's next node, with its address
 
-pub walked-ends : (m : Memory) (from : Node) (met : Met) → met ≡ onwardFrom m from → Stops met → Ends ≡ walkedFrom m from
-unfolding walkedFrom onwardFrom
-walked-ends m from met told stops =
-    let onto = targetOf (linkAt m from) in
-    rw (stopped (goesOn m from onto) onto (cond (eqb (onto .0) 1) Tail (cond (inUse m onto) NotAbove NotInUse)) (rw told at stops))
+  pub walked-onto : (onto : Node) (met : Met) (word : ℕ) → met ≡ onwardFrom m from → met ≡ Next onto → word ≡ addressAt m onto
+      → Onto onto (address word) ≡ walkedFrom m from
+  unfolding walkedFrom
+  walked-onto onto met word told next e =
+      let goes = next-goes m from onto (sym told ∙ next) in
+      rw (e, goes .0, sym (goes .1))
+
+  pub walked-ends : (met : Met) → met ≡ onwardFrom m from → Stops met → Ends ≡ walkedFrom m from
+  unfolding walkedFrom
+  walked-ends met told stops = rw (stopped (rw told at stops))
 
 -- ---- the walk does not look at deleters
 

@@ -2,6 +2,7 @@
 -- Rests on the table's `chain` and on Walking.
 use mathlib.Core.Bool.{cond}
 use mathlib.Core.List.{List, [], _∷_, _++_}
+use mathlib.Core.Option.{Option, none, some}
 use Prim.Native.Nat.{ℕ}
 use lib.ListN.{length, take, drop}
 use Rattle.record.specs.Record.{headNode}
@@ -11,7 +12,14 @@ use Rattle.table.specs.Events.{tablesFit}
 use Rattle.table.specs.Chain.{chain, chainAddresses}
 use Rattle.chain.specs.declared.Keys.{Keys}
 use Rattle.chain.specs.declared.Keys.the-variants.{Refused, Read}
+use Rattle.chain.specs.declared.Met.{Met}
 use Rattle.chain.specs.Walking.{onwardFrom}
+
+-- "Where an answer is an enum, a definition sets out this paper's number and values for each of its cases.": how many addresses were read and what the
+-- walk met after the last of them; where none were, 7: "sizes outside the limits, a lent table too short, count below 2 or above the nodes"
+abbrev pub keysFrom : Option (ℕ × Met) → Keys
+keysFrom none = Refused 7
+keysFrom (some (read, met)) = Read read met
 
 -- the buffer afterwards, and the answer
 pub record Left : Type 0 where
@@ -32,8 +40,8 @@ unfoldable pub readKeys : Memory → (buffer : List ℕ) → Left
 readKeys m buffer =
     let keys = take (length buffer) (chainAddresses m) in
     left (keys ++ drop (length keys) buffer)
-    (Read (length keys) (onwardFrom m (lastOf headNode (take (length buffer) (chain m)))))
+    (keysFrom (some (length keys, onwardFrom m (lastOf headNode (take (length buffer) (chain m))))))
 
--- "sizes outside the limits, a lent table too short, count below 2 or above the nodes"
+-- "7 | sizes outside the limits, a lent table too short, count below 2 or above the nodes | nothing changed"
 unfoldable pub keysOf : (nodes processes : ℕ) → Memory → (buffer : List ℕ) → Left
-keysOf nodes processes m buffer = cond (tablesFit nodes processes m) (readKeys m buffer) (left buffer (Refused 7))
+keysOf nodes processes m buffer = cond (tablesFit nodes processes m) (readKeys m buffer) (left buffer (keysFrom none))

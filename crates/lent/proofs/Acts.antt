@@ -1,5 +1,5 @@
--- The call of `list::act`, as one rule: whoever has the three lent tables calls it with a record, and has what it promises. Every walk that calls
--- `act` cites it, whatever else its context holds. All that it knows of `act` is that it meets its contract.
+-- The call of `hand_back`, as one rule: whoever has the three lent tables calls it with a record, and has what it promises. Every walk that calls
+-- `hand_back` cites it, whatever else its context holds. All that it knows of `hand_back` is that it meets its contract.
 use Rattle.walks.proofs.Kit.{_≡_, ap, ℕ, [], _∷_, List, _++_, length, URA, Opd, Place, Body, seq, call, Val, WT, hasTy, Holds, only, SProp, ent}
 use Rattle.walks.proofs.Kit.{id⊢, Lft, Share, Memory, Routine, Heap, Calls, Loops, Env, Atoms, Fun, Lfts, Given, Item, Sq, Post, Go, runs, lands}
 use Rattle.walks.proofs.Kit.{Opds, raw, ⋆, _$_, _∵_, !, qed, move, join, fjoin, done, FmC, RattleType, Is, RefT, owned, nothing, Contract, Triple}
@@ -12,18 +12,18 @@ use Rattle.record.specs.declared.Event.{Event}
 use Rattle.record.proofs.Event as event-type
 use Rattle.record.proofs.Event.Laws as event-laws
 use Rattle.words.specs.declared.Sizes.{Sizes}
-use Rattle.list.specs.declared.Acted.{Acted}
 use Rattle.list.specs.Acting.{left, actOn}
 use Rattle.words.proofs.Sizes as sizes-type
 use Rattle.words.proofs.Sizes.Laws as sizes-laws
-use Rattle.list.proofs.Acted as acted-type
-use Rattle.list.proofs.Acted.Laws as acted-laws
-use Rattle.list.proofs.act as callee
-use Rattle.list.proofs.act.Symbol.{name as #act}
 use Rattle.lent.specs.declared.Said.{Said}
+use Rattle.lent.specs.declared.Handed.{Handed}
+use Rattle.lent.specs.Lent.{actedOf}
 use Rattle.lent.proofs.Said as said-type
 use Rattle.lent.proofs.Said.Laws as said-laws
-use Rattle.lent.proofs.Events.{saidOf}
+use Rattle.lent.proofs.Handed as handed-type
+use Rattle.lent.proofs.Handed.Laws as handed-laws
+use Rattle.lent.proofs.hand_back as callee
+use Rattle.lent.proofs.hand_back.Symbol.{name as #hand-back}
 use Rattle.lent.proofs.Tables.{tableOf, Lent, Last, passes-on}
 
 -- the rows of the types that are handed over, and their machine values
@@ -45,8 +45,8 @@ sizes-vals = struct.vals sizes-type.the-type sizes-laws.the-laws
 abbrev pub sizes-val : Sizes → Val
 sizes-val = struct.val sizes-type.the-type sizes-laws.the-laws
 
-abbrev pub AR : RattleType
-AR = acted-type.the-row
+abbrev pub HR : RattleType
+HR = handed-type.the-row
 
 abbrev pub DR : RattleType
 DR = said-type.the-row
@@ -57,19 +57,19 @@ said-vals = struct.vals said-type.the-type said-laws.the-laws
 abbrev pub said-val : Said → Val
 said-val = struct.val said-type.the-type said-laws.the-laws
 
--- what is known of the parts of what `act` gives: the record advanced, and what is said
-pub advanced-is : (t : Acted) (vs : List Val) → Is AR t vs → Is R (t .advanced) (vals (t .advanced))
-advanced-is t vs is = struct.owed acted-type.the-type acted-laws.the-laws t _ is .0
+-- what is known of the parts of what is handed back: the record advanced, and what is said
+pub advanced-is : (t : Handed) (vs : List Val) → Is HR t vs → Is R (t .advanced) (vals (t .advanced))
+advanced-is t vs is = struct.owed handed-type.the-type handed-laws.the-laws t _ is .0
 
-pub said-is : (t : Acted) (vs : List Val) → Is AR t vs → Is DR (saidOf t) (said-vals (saidOf t))
-said-is t vs is = struct.owes said-type.the-type said-laws.the-laws (saidOf t) (struct.owed acted-type.the-type acted-laws.the-laws t _ is .1)
+pub said-is : (t : Handed) (vs : List Val) → Is HR t vs → Is DR (t .said) (said-vals (t .said))
+said-is t vs is = struct.owed handed-type.the-type handed-laws.the-laws t _ is .1 .0
 
-pub acted-tells : (t : Acted) (v : Val) → Is AR t (v ∷ []) → v ≡ struct.val acted-type.the-type acted-laws.the-laws t
-acted-tells t v is = ap only (struct.tells acted-type.the-type acted-laws.the-laws t _ is)
+pub handed-tells : (t : Handed) (v : Val) → Is HR t (v ∷ []) → v ≡ struct.val handed-type.the-type handed-laws.the-laws t
+handed-tells t v is = ap only (struct.tells handed-type.the-type handed-laws.the-laws t _ is)
 
 module _ {M : Type 1} (𝓤 : URA M) (H : Heap 𝓤) (A : Atoms 𝓤) (W : Given 𝓤 H A) where
-  pub acted-typed : (t : Acted) (v : Val) → Is AR t (v ∷ []) → Holds (hasTy acted-laws.mir v) × WT v
-  acted-typed t v is = struct.lawful acted-type.the-type acted-laws.the-laws 𝓤 H A W .typed t _ is .0
+  pub handed-typed : (t : Handed) (v : Val) → Is HR t (v ∷ []) → Holds (hasTy handed-laws.mir v) × WT v
+  handed-typed t v is = struct.lawful handed-type.the-type handed-laws.the-laws 𝓤 H A W .typed t _ is .0
 
   pub said-typed : (d : Said) → Is DR d (said-vals d) → Holds (hasTy said-laws.mir (said-val d)) × WT (said-val d)
   said-typed d is = struct.lawful said-type.the-type said-laws.the-laws 𝓤 H A W .typed d _ is .0
@@ -110,8 +110,8 @@ module _ {M : Type 1} (𝓤 : URA M) (H : Heap 𝓤) (A : Atoms 𝓤) (at-mem : 
     abbrev Asks : Item 𝓤
     Asks = raw (Acting .pre to-act)
 
-    abbrev pub Acts-so : (addresses links deleters : List ℕ) → Acted → Type 0
-    Acts-so addresses links deleters t = left addresses links deleters t ≡ actOn (xa .now) (xl .now) (xd .now) z r e
+    abbrev pub Acts-so : (addresses links deleters : List ℕ) → Handed → Type 0
+    Acts-so addresses links deleters t = left addresses links deleters (actedOf (t .advanced) (t .said)) ≡ actOn (xa .now) (xl .now) (xd .now) z r e
 
     asks : Is SR z (sizes-vals z) → Is R r (vals r) → Is ER e (event-vals e)
         → ent 𝓤 (⋆ 𝓤 H A (Lent 𝓤 κ₀ κ₁ κ₂ q₀ q₁ q₂ xa xl xd [])) (Acting .pre to-act)
@@ -125,12 +125,12 @@ module _ {M : Type 1} (𝓤 : URA M) (H : Heap 𝓤) (A : Atoms 𝓤) (at-mem : 
         move ! (1 ∷ 0 ∷ []) $ done !
 
     module _ {Γ : List (Item 𝓤)} {E : Env 𝓤 H} {C : Calls 𝓤 H} {Λ : Loops 𝓤 H} {xs : List Opd} {d : Place} {rest : Body} {q : Post 𝓤 H} where
-      pub acts : FmC 𝓤 H (W .laws) C → Triple 𝓤 (C #act) Acting → Is SR z (sizes-vals z) → Is R r (vals r) → Is ER e (event-vals e)
+      pub acts : FmC 𝓤 H (W .laws) C → Triple 𝓤 (C #hand-back) Acting → Is SR z (sizes-vals z) → Is R r (vals r) → Is ER e (event-vals e)
           → Opds Go W (Asks ∷ Γ) E xs (tableOf xa ∷ tableOf xl ∷ tableOf xd ∷ (sizes-vals z ++ vals r ++ event-vals e))
-          → ((v : Val) (t : Acted) (ads ls ds : List ℕ) → Acts-so ads ls ds t → length ads ≡ length (xa .now) → length ls ≡ length (xl .now)
-          → length ds ≡ length (xd .now) → Is AR t (v ∷ [])
+          → ((v : Val) (t : Handed) (ads ls ds : List ℕ) → Acts-so ads ls ds t → length ads ≡ length (xa .now) → length ls ≡ length (xl .now)
+          → length ds ≡ length (xd .now) → Is HR t (v ∷ [])
           → Sq W (Last 𝓤 κ₀ κ₁ κ₂ q₀ q₁ q₂ xa xl xd ads ls ds Γ) (lands C Λ E d v rest q))
-          → Sq W (Lent 𝓤 κ₀ κ₁ κ₂ q₀ q₁ q₂ xa xl xd Γ) (runs C Λ E (seq (call #act xs d) rest) q)
+          → Sq W (Lent 𝓤 κ₀ κ₁ κ₂ q₀ q₁ q₂ xa xl xd Γ) (runs C Λ E (seq (call #hand-back xs d) rest) q)
       acts fm known is-z is-r is-e os k =
-          passes-on 𝓤 κ₀ κ₁ κ₂ q₀ q₁ q₂ xa xl xd AR (λ t ads ls ds. Acts-so ads ls ds t) H A W
+          passes-on 𝓤 κ₀ κ₁ κ₂ q₀ q₁ q₂ xa xl xd HR (λ t ads ls ds. Acts-so ads ls ds t) H A W
           Acting to-act (asks is-z is-r is-e) (λ v. id⊢ 𝓤 _) fm known os k

@@ -16,10 +16,11 @@ use Rattle.words.specs.declared.Sizes.{Sizes}
 use Rattle.list.specs.declared.Acted.{Acted}
 use Rattle.list.specs.Acting.{Left, left, actOn}
 use Rattle.lent.specs.declared.Said.{Said}
-use Rattle.lent.specs.Lent.{leaves, actIn}
+use Rattle.lent.specs.declared.Handed.{Handed}
+use Rattle.lent.specs.Lent.{actedOf, leaves, actIn}
 
 -- what is said of an event, where the record is handed back
-abbrev pub saidOf : Acted → Said
+abbrev saidOf : Acted → Said
 saidOf t = record { sizes = t .sizes; outcome = t .outcome }
 
 -- past the row there is no record
@@ -40,13 +41,14 @@ module _ (a l d : List ℕ) (z : Sizes) (row : List Record) (e : Event) where
   abbrev beside : Left → Leaves
   beside x = leaves (x .addresses) (x .links) (x .deleters) (set row p (x .answer .advanced)) (saidOf (x .answer))
 
-  module _ (long : z .processes ≤ length row) (ads ls ds : List ℕ) (t : Acted) where
-    pub in-row : left ads ls ds t ≡ actOn a l d z (getD row p freshRecord) e
-        → leaves ads ls ds (set row p (t .advanced)) (saidOf t) ≡ actIn a l d z row e
+  module _ (long : z .processes ≤ length row) (ads ls ds : List ℕ) (t : Handed) where
+    pub in-row : left ads ls ds (actedOf (t .advanced) (t .said)) ≡ actOn a l d z (getD row p freshRecord) e
+        → leaves ads ls ds (set row p (t .advanced)) (t .said) ≡ actIn a l d z row e
     unfolding event stored recordIn actOn
     in-row so = rw (le-leb (z .processes) (length row) long) (ap beside so)
 
-    pub past-row : length row ≤ p → left ads ls ds t ≡ actOn a l d z freshRecord e → leaves ads ls ds row (saidOf t) ≡ actIn a l d z row e
+    pub past-row : length row ≤ p → left ads ls ds (actedOf (t .advanced) (t .said)) ≡ actOn a l d z freshRecord e
+        → leaves ads ls ds row (t .said) ≡ actIn a l d z row e
     past-row past so =
-        ap (λ (rs : List Record). leaves ads ls ds rs (saidOf t)) (sym (set-out row p (t .advanced) past))
+        ap (λ (rs : List Record). leaves ads ls ds rs (t .said)) (sym (set-out row p (t .advanced) past))
         ∙ in-row (so ∙ ap (λ (r : Record). actOn a l d z r e) (sym (no-record row p freshRecord past)))

@@ -1,51 +1,22 @@
--- What a list that fits tells of the lent tables, and its links as they are written: zeros, then head's and tail's.
-use mathlib.Core.Path.{_≡_, sym, ap, _∙_}
-use mathlib.Core.Bool.{Bool, true, false, _&&_}
+-- Lent tables made fresh: what their test tells, the links as they are written, zeros and then head's and tail's, and the row beside them.
+use mathlib.Core.Path.{_≡_, refl, sym, ap, _∙_}
+use mathlib.Core.Bool.{Bool, true, false, cond}
 use mathlib.Core.List.{List, _∷_}
 use Prim.Native.Nat.{ℕ, zero, suc, _-_, _<_, _≤_}
 use native.Mathlib.Nat.{not-suc-le-zero, le-of-suc-le-suc}
 use native.Mathlib.Omega.{arith}
-use lib.Dec.{leb}
 use lib.ListN.{length, set, replicate}
-use borrow.Author.Tests.{leb-true, le-leb, lt-leb}
-use Rattle.table.specs.Words.{freshMemory}
-use Rattle.table.specs.Events.{fresh, tablesFit, sizesFit}
+use borrow.Author.Tests.{le-leb, lt-leb}
 use Rattle.record.specs.Record.{freshRecord}
 use Rattle.record.specs.declared.Record.{Record}
+use Rattle.table.specs.Words.{memory, freshMemory}
+use Rattle.table.specs.Events.{fresh, tablesFit}
+use Rattle.table.proofs.Numbered.{Room}
+use Rattle.table.proofs.Fitting.{room-of}
+use Rattle.words.specs.declared.Sizes.{Sizes}
 use Rattle.lent.specs.declared.Made.{Made}
 use Rattle.lent.specs.declared.Made.the-variants.{Refused, Fresh}
-use Rattle.lent.specs.Fresh.{over, freshFits, tablesLeft, freshTables, listLeft, freshList}
-use Rattle.table.proofs.Tests.{and-left, and-right}
-use Rattle.lent.proofs.Tests.{both, second-fails}
-
--- the tests of a list that fits, one by one
-module _ (a l d : List ℕ) (nodes processes : ℕ) (fits : freshFits a l d nodes processes ≡ true) where
-  abbrev sizes : Bool
-  sizes = sizesFit nodes processes
-
-  to-deleters : (sizes && leb nodes (length a) && leb nodes (length l) && leb nodes (length d)) ≡ true
-  unfolding fresh freshMemory tablesFit
-  to-deleters = and-left (sizes && leb nodes (length a) && leb nodes (length l) && leb nodes (length d)) _ (and-left _ (leb 2 nodes) fits)
-
-  to-links : (sizes && leb nodes (length a) && leb nodes (length l)) ≡ true
-  to-links = and-left _ (leb nodes (length d)) to-deleters
-
-  to-addresses : (sizes && leb nodes (length a)) ≡ true
-  to-addresses = and-left _ (leb nodes (length l)) to-links
-
-  pub deleters-hold : nodes ≤ length d
-  deleters-hold = leb-true _ _ (and-right (sizes && leb nodes (length a) && leb nodes (length l)) (leb nodes (length d)) to-deleters)
-
-  pub links-hold : nodes ≤ length l
-  links-hold = leb-true _ _ (and-right (sizes && leb nodes (length a)) (leb nodes (length l)) to-links)
-
-  pub addresses-hold : nodes ≤ length a
-  addresses-hold = leb-true _ _ (and-right sizes (leb nodes (length a)) to-addresses)
-
-  pub two-nodes : 2 ≤ nodes
-  unfolding sizesFit
-  two-nodes = leb-true 2 nodes (and-left _ (leb nodes 4096) (and-left _ (leb 1 processes) (and-left _ (leb processes 64)
-      (and-left sizes (leb nodes (length a)) to-addresses))))
+use Rattle.lent.specs.Fresh.{over, sizesOf, freshFits, TablesLeft, tablesLeft, freshTables, listLeft, freshList}
 
 pub links-laid : (l : List ℕ) (nodes : ℕ) → 2 ≤ nodes → set (set (over (replicate nodes 0) l) 0 2) 1 2 ≡ over (freshMemory nodes .links) l
 unfolding freshMemory
@@ -54,33 +25,71 @@ links-laid l (suc zero) h = absurd (not-suc-le-zero (le-of-suc-le-suc h))
 links-laid l (suc (suc n)) h =
     let e : n ≡ suc (suc n) - 2 = omega arith in ap (λ (m : ℕ). over (2 ∷ 2 ∷ replicate m 0) l) e
 
--- the words laid over the tables are those of a fresh list
-pub words-laid : (a l d a′ l′ d′ : List ℕ) (nodes processes : ℕ) → freshFits a l d nodes processes ≡ true
-    → a′ ≡ over (replicate nodes 0) a → l′ ≡ over (freshMemory nodes .links) l → d′ ≡ over (replicate nodes 0) d
-    → tablesLeft a′ l′ d′ (Fresh (record { nodes = nodes; processes = processes; count = 2 })) ≡ freshTables a l d nodes processes
-unfolding fresh freshMemory freshTables
-words-laid a l d a′ l′ d′ nodes processes fits e f g = rw (fits, e, f, g)
+-- what the test of the tables tells, with the count of a fresh list
+module _ (a l d : List ℕ) (nodes processes : ℕ) (fits : Bool) (told : fits ≡ tablesFit nodes processes (memory a l d 2)) where
+  room : fits ≡ true → Room nodes (memory a l d 2)
+  room fit = room-of nodes processes (memory a l d 2) (sym told ∙ fit)
 
--- where a list does not fit, or the row is too short, nothing is changed
-pub tables-refused : (a l d : List ℕ) (nodes processes : ℕ) (r : Bool) → r ≡ freshFits a l d nodes processes → r ≡ false
-    → tablesLeft a l d (Refused 7) ≡ freshTables a l d nodes processes
-unfolding freshTables
-tables-refused a l d nodes processes r e f = rw (sym e ∙ f)
+  pub addresses-hold : fits ≡ true → nodes ≤ length a
+  addresses-hold fit = room fit .addresses
+
+  pub links-hold : fits ≡ true → nodes ≤ length l
+  links-hold fit = room fit .links
+
+  pub deleters-hold : fits ≡ true → nodes ≤ length d
+  deleters-hold fit = room fit .deleters
+
+  pub two-nodes : fits ≡ true → 2 ≤ nodes
+  two-nodes fit = room fit .most
+
+  -- the words laid over tables that fit are those of a fresh list
+  pub words-laid : (a′ l′ d′ : List ℕ) → fits ≡ true
+      → a′ ≡ over (replicate nodes 0) a → l′ ≡ over (freshMemory nodes .links) l → d′ ≡ over (replicate nodes 0) d
+      → tablesLeft a′ l′ d′ (Fresh (record { nodes = nodes; processes = processes; count = 2 })) ≡ freshTables a l d nodes processes
+  unfolding fresh freshMemory freshTables
+  words-laid a′ l′ d′ fit e f g = rw (sym told ∙ fit, e, f, g)
+
+  -- tables that do not are left as they are
+  pub tables-refused : fits ≡ false → tablesLeft a l d (Refused 7) ≡ freshTables a l d nodes processes
+  unfolding fresh freshMemory freshTables
+  tables-refused unfit = rw (sym told ∙ unfit)
+
+-- ---- the row beside the tables
+
+-- which answer there is tells whether the tables fit
+answered : (fits : Bool) (x laid kept : TablesLeft) → x ≡ cond fits laid kept → x .answer ≡ cond fits (laid .answer) (kept .answer)
+answered true x laid kept e = ap (λ (t : TablesLeft). t .answer) e
+answered false x laid kept e = ap (λ (t : TablesLeft). t .answer) e
+
+answer-fresh : (fits : Bool) (sizes z : Sizes) → Fresh sizes ≡ cond fits (Fresh z) (Refused 7) → fits ≡ true
+answer-fresh true sizes z e = refl
+answer-fresh false sizes z e = absurd (let z : _≡_ {A = ℕ} 0 1 = cc in omega arith)
+
+answer-refused : (fits : Bool) (number : ℕ) (z : Sizes) → Refused number ≡ cond fits (Fresh z) (Refused 7) → fits ≡ false
+answer-refused true number z e = absurd (let z : _≡_ {A = ℕ} 0 1 = cc in omega arith)
+answer-refused false number z e = refl
 
 module _ (a l d : List ℕ) (row : List Record) (nodes processes : ℕ) where
   pub row-refused : length row < processes → listLeft a l d row (Refused 7) ≡ freshList a l d row nodes processes
   unfolding freshList
-  row-refused h = rw (lt-leb processes (length row) h)
+  row-refused short = rw (lt-leb processes (length row) short)
 
-  pub list-refused : (r : Bool) → r ≡ freshFits a l d nodes processes → r ≡ false
-      → listLeft a l d row (Refused 7) ≡ freshList a l d row nodes processes
-  unfolding freshList
-  list-refused r e f = rw (second-fails (leb processes (length row)) _ (sym e ∙ f))
+  module _ (a′ l′ d′ : List ℕ) (answer : Made) (long : processes ≤ length row)
+      (made : tablesLeft a′ l′ d′ answer ≡ freshTables a l d nodes processes) where
+    abbrev fits : Bool
+    fits = freshFits a l d nodes processes
 
-  pub list-laid : (a′ l′ d′ : List ℕ) (answer : Made) (r : Bool) → processes ≤ length row → r ≡ freshFits a l d nodes processes → r ≡ true
-      → tablesLeft a′ l′ d′ answer ≡ freshTables a l d nodes processes
-      → listLeft a′ l′ d′ (over (replicate processes freshRecord) row) answer ≡ freshList a l d row nodes processes
-  unfolding freshList fresh
-  list-laid a′ l′ d′ answer r h e f g = rw (both _ _ (le-leb processes (length row) h) (sym e ∙ f), g)
+    told : answer ≡ cond fits (Fresh (sizesOf (fresh nodes processes))) (Refused 7)
+    unfolding freshTables
+    told = answered fits _ _ _ made
 
-pub ruleset holding = (deleters-hold, links-hold, addresses-hold, two-nodes, words-laid)
+    pub list-laid : (sizes : Sizes) → answer ≡ Fresh sizes
+        → listLeft a′ l′ d′ (over (replicate processes freshRecord) row) answer ≡ freshList a l d row nodes processes
+    unfolding freshList fresh
+    list-laid sizes is = rw (le-leb processes (length row) long, answer-fresh fits sizes _ (sym is ∙ told), made)
+
+    pub list-refused : (number : ℕ) → answer ≡ Refused number → listLeft a′ l′ d′ row answer ≡ freshList a l d row nodes processes
+    unfolding freshList fresh freshMemory
+    list-refused number is =
+        let unfit = answer-refused fits number _ (sym is ∙ told) in
+        rw (le-leb processes (length row) long, unfit, made, sym (tables-refused a l d nodes processes fits refl unfit))

@@ -1,5 +1,4 @@
 pub mod Over
-pub mod Tests
 pub mod Freshness
 pub mod Events
 pub mod Tables

@@ -12,15 +12,11 @@ use Rattle.words.specs.declared.Sizes.{Sizes}
 use Rattle.lent.specs.declared.Made.{Made}
 use Rattle.lent.specs.declared.Made.the-variants.{Refused, Fresh}
 
--- the refusal's number, 0 where all was made fresh
-abbrev pub refusalOf : Made → ℕ
-refusalOf (Refused number) = number
-refusalOf (Fresh sizes) = 0
-
--- the sizes of what was made fresh, none where it was refused
-abbrev pub sizesMade : Made → Option Sizes
-sizesMade (Refused number) = none
-sizesMade (Fresh sizes) = some sizes
+-- "Where an answer is an enum, a definition sets out this paper's number and values for each of its cases.": the sizes of what was made fresh; where
+-- nothing was, 7: "sizes outside the limits, a lent table too short"
+abbrev pub madeOf : Option Sizes → Made
+madeOf none = Refused 7
+madeOf (some sizes) = Fresh sizes
 
 -- new words or records laid over the lent ones, from the first on. "The caller's table words beyond the stated sizes are never touched."
 abbrev pub over : {A : Type 0} → List A → List A → List A
@@ -52,8 +48,8 @@ unfoldable pub freshTables : List ℕ → List ℕ → List ℕ → (nodes proce
 freshTables addresses links deleters nodes processes =
     let σ = fresh nodes processes in
     cond (freshFits addresses links deleters nodes processes)
-    (tablesLeft (over (σ .memory .addresses) addresses) (over (σ .memory .links) links) (over (σ .memory .deleters) deleters) (Fresh (sizesOf σ)))
-    (tablesLeft addresses links deleters (Refused 7))
+    (tablesLeft (over (σ .memory .addresses) addresses) (over (σ .memory .links) links) (over (σ .memory .deleters) deleters) (madeOf (some (sizesOf σ))))
+    (tablesLeft addresses links deleters (madeOf none))
 
 -- ---- the tables and the row
 
@@ -70,4 +66,4 @@ freshList addresses links deleters row nodes processes =
     let σ = fresh nodes processes in
     cond (leb processes (length row) && freshFits addresses links deleters nodes processes)
     (record { tables = freshTables addresses links deleters nodes processes; row = over (σ .row) row })
-    (listLeft addresses links deleters row (Refused 7))
+    (listLeft addresses links deleters row (madeOf none))

@@ -1,7 +1,6 @@
 // The lent forms: an event on a lent record and in a lent row of records; lent tables and a lent row made fresh. Rests on the list.
 ghost use mathlib.Core.Path.{_≡_};
 ghost use mathlib.Core.List.{List};
-ghost use mathlib.Core.Bool.{true};
 ghost use Prim.Native.Nat.{_≤_};
 ghost use lib.ListN.{length, replicate};
 ghost use Rattle.record.specs.Record.{freshRecord};
@@ -10,7 +9,7 @@ ghost use Rattle.record.specs.declared.Record.{Record};
 ghost use Rattle.table.specs.Words.{freshMemory};
 ghost use Rattle.list.specs.Acting.{left, actOn};
 ghost use Rattle.lent.specs.Lent.{actedOf, leaves, actIn};
-ghost use Rattle.lent.specs.Fresh.{over, freshFits, freshTables, tablesLeft, freshList, listLeft};
+ghost use Rattle.lent.specs.Fresh.{over, freshTables, tablesLeft, freshList, listLeft};
 use record::Event;
 use record::Outcome;
 use record::Record;
@@ -28,6 +27,35 @@ pub enum Made {
     Fresh(Sizes),
 }
 
+// A record advanced, to be stored where the old one was lent, and what is said.
+struct Handed {
+    advanced: Record,
+    said: Said,
+}
+
+// One event on a record by value, which is handed back advanced.
+fn hand_back(
+    addresses: &mut [u32],
+    links: &mut [u32],
+    deleters: &mut [u32],
+    sizes: Sizes,
+    old: Record,
+    event: Event,
+) -> Handed
+    ensures { λ r. ⌜ left (now (addresses .exit)) (now (links .exit)) (now (deleters .exit)) (actedOf (r .advanced) (r .said)) ≡
+        actOn (now (addresses .entry)) (now (links .entry)) (now (deleters .entry)) sizes old event ⌝ }
+{
+    let acted = list::act(addresses, links, deleters, sizes, old, event);
+    let advanced = acted.advanced;
+    let after = acted.sizes;
+    let outcome = acted.outcome;
+    let said = Said {
+        sizes: after,
+        outcome,
+    };
+    Handed { advanced, said }
+}
+
 // One event on a lent record, which is left advanced.
 pub fn act_on(
     addresses: &mut [u32],
@@ -37,28 +65,19 @@ pub fn act_on(
     record: &mut Record,
     event: Event,
 ) -> Said
-    ensures { λ r. ⌜ left (now (addresses .exit)) (now (links .exit)) (now (deleters .exit)) (actedOf (now («record» .exit)) r) ≡ actOn (now (addresses .entry)) (now (links .entry)) (now (deleters .entry)) sizes (now («record» .entry)) event ⌝ }
+    ensures { λ r. ⌜ left (now (addresses .exit)) (now (links .exit)) (now (deleters .exit)) (actedOf (now («record» .exit)) r) ≡
+        actOn (now (addresses .entry)) (now (links .entry)) (now (deleters .entry)) sizes (now («record» .entry)) event ⌝ }
 {
-    let acted = list::act(addresses, links, deleters, sizes, *record, event);
-    *record = acted.advanced;
-    Said {
-        sizes: acted.sizes,
-        outcome: acted.outcome,
-    }
+    let handed = hand_back(addresses, links, deleters, sizes, *record, event);
+    *record = handed.advanced;
+    handed.said
 }
 
 // The index of the record of the event's process in a row.
 fn index_of(event: Event) -> usize
     ensures { λ r. ⌜ r ≡ processOf event .0 ⌝ }
 {
-    match event {
-        Event::Insert(p, _) => p.0 as usize,
-        Event::Delete(p, _) => p.0 as usize,
-        Event::Find(p, _) => p.0 as usize,
-        Event::Step(p) => p.0 as usize,
-        Event::Stop(p) => p.0 as usize,
-        Event::Restart(p) => p.0 as usize,
-    }
+    list::process_of(event).0 as usize
 }
 
 // One event in a lent row: the record of its process is replaced, the others stay. A process past the row has no record, and is refused.
@@ -70,7 +89,8 @@ pub fn act_in(
     row: &mut [Record],
     event: Event,
 ) -> Said
-    ensures { λ r. ⌜ leaves (now (addresses .exit)) (now (links .exit)) (now (deleters .exit)) (now (row .exit)) r ≡ actIn (now (addresses .entry)) (now (links .entry)) (now (deleters .entry)) sizes (now (row .entry)) event ⌝ }
+    ensures { λ r. ⌜ leaves (now (addresses .exit)) (now (links .exit)) (now (deleters .exit)) (now (row .exit)) r ≡
+        actIn (now (addresses .entry)) (now (links .entry)) (now (deleters .entry)) sizes (now (row .entry)) event ⌝ }
 {
     let processes = sizes.processes;
     if row.len() < processes as usize {
@@ -81,18 +101,12 @@ pub fn act_in(
     }
     let at = index_of(event);
     if row.len() <= at {
-        let acted = list::act(addresses, links, deleters, sizes, Record::fresh(), event);
-        return Said {
-            sizes: acted.sizes,
-            outcome: acted.outcome,
-        };
+        let handed = hand_back(addresses, links, deleters, sizes, Record::fresh(), event);
+        return handed.said;
     }
-    let acted = list::act(addresses, links, deleters, sizes, row[at], event);
-    row[at] = acted.advanced;
-    Said {
-        sizes: acted.sizes,
-        outcome: acted.outcome,
-    }
+    let handed = hand_back(addresses, links, deleters, sizes, row[at], event);
+    row[at] = handed.advanced;
+    handed.said
 }
 
 // The first n words are made 0.
@@ -107,41 +121,6 @@ fn clear(words: &mut [u32], n: usize)
     }
 }
 
-// Whether a fresh list of these sizes fits the lent tables.
-fn fresh_fits(
-    addresses: &[u32],
-    links: &[u32],
-    deleters: &[u32],
-    nodes: u32,
-    processes: u32,
-) -> bool
-    ensures { λ r. ⌜ r ≡ freshFits (now (addresses .entry)) (now (links .entry)) (now (deleters .entry)) nodes processes ⌝ }
-{
-    let n = nodes as usize;
-    if nodes < 2 {
-        return false;
-    }
-    if 4096 < nodes {
-        return false;
-    }
-    if processes < 1 {
-        return false;
-    }
-    if 64 < processes {
-        return false;
-    }
-    if addresses.len() < n {
-        return false;
-    }
-    if links.len() < n {
-        return false;
-    }
-    if deleters.len() < n {
-        return false;
-    }
-    true
-}
-
 // Zeros, then head's link and tail's, both to tail.
 fn fresh_links(links: &mut [u32], nodes: usize)
     requires { ⌜ (2 ≤ nodes) × (nodes ≤ length (now links)) ⌝ }
@@ -152,28 +131,6 @@ fn fresh_links(links: &mut [u32], nodes: usize)
     links[1] = 2;
 }
 
-// The words of a fresh list that fits.
-fn fresh_words(
-    addresses: &mut [u32],
-    links: &mut [u32],
-    deleters: &mut [u32],
-    nodes: u32,
-    processes: u32,
-) -> Made
-    requires { ⌜ freshFits (now addresses) (now links) (now deleters) nodes processes ≡ true ⌝ }
-    ensures { λ r. ⌜ tablesLeft (now (addresses .exit)) (now (links .exit)) (now (deleters .exit)) r ≡ freshTables (now (addresses .entry)) (now (links .entry)) (now (deleters .entry)) nodes processes ⌝ }
-{
-    clear(addresses, nodes as usize);
-    fresh_links(links, nodes as usize);
-    clear(deleters, nodes as usize);
-    let sizes = Sizes {
-        nodes,
-        processes,
-        count: 2,
-    };
-    Made::Fresh(sizes)
-}
-
 // The lent tables made fresh for these sizes, or refused and left as they are.
 pub fn fresh_tables(
     addresses: &mut [u32],
@@ -182,10 +139,19 @@ pub fn fresh_tables(
     nodes: u32,
     processes: u32,
 ) -> Made
-    ensures { λ r. ⌜ tablesLeft (now (addresses .exit)) (now (links .exit)) (now (deleters .exit)) r ≡ freshTables (now (addresses .entry)) (now (links .entry)) (now (deleters .entry)) nodes processes ⌝ }
+    ensures { λ r. ⌜ tablesLeft (now (addresses .exit)) (now (links .exit)) (now (deleters .exit)) r ≡
+        freshTables (now (addresses .entry)) (now (links .entry)) (now (deleters .entry)) nodes processes ⌝ }
 {
-    if fresh_fits(addresses, links, deleters, nodes, processes) {
-        return fresh_words(addresses, links, deleters, nodes, processes);
+    let sizes = Sizes {
+        nodes,
+        processes,
+        count: 2,
+    };
+    if words::tables_fit(addresses, links, deleters, sizes) {
+        clear(addresses, nodes as usize);
+        fresh_links(links, nodes as usize);
+        clear(deleters, nodes as usize);
+        return Made::Fresh(sizes);
     }
     Made::Refused(7)
 }
@@ -205,7 +171,9 @@ fn fresh_beside(
     nodes: u32,
     processes: u32,
 ) -> Beside
-    ensures { λ r. ⌜ (r .records ≤ records) × ((row : List Record) → length row ≡ records → listLeft (now (addresses .exit)) (now (links .exit)) (now (deleters .exit)) (over (replicate (r .records) freshRecord) row) (r .answer) ≡ freshList (now (addresses .entry)) (now (links .entry)) (now (deleters .entry)) row nodes processes) ⌝ }
+    ensures { λ r. ⌜ (r .records ≤ records) × ((row : List Record) → length row ≡ records →
+        listLeft (now (addresses .exit)) (now (links .exit)) (now (deleters .exit)) (over (replicate (r .records) freshRecord) row) (r .answer) ≡
+        freshList (now (addresses .entry)) (now (links .entry)) (now (deleters .entry)) row nodes processes) ⌝ }
 {
     if records < processes as usize {
         return Beside {
@@ -213,16 +181,13 @@ fn fresh_beside(
             answer: Made::Refused(7),
         };
     }
-    if fresh_fits(addresses, links, deleters, nodes, processes) {
-        let answer = fresh_words(addresses, links, deleters, nodes, processes);
-        return Beside {
+    let answer = fresh_tables(addresses, links, deleters, nodes, processes);
+    match answer {
+        Made::Refused(_) => Beside { records: 0, answer },
+        Made::Fresh(_) => Beside {
             records: processes as usize,
             answer,
-        };
-    }
-    Beside {
-        records: 0,
-        answer: Made::Refused(7),
+        },
     }
 }
 
@@ -248,7 +213,8 @@ pub fn fresh_list(
     nodes: u32,
     processes: u32,
 ) -> Made
-    ensures { λ r. ⌜ listLeft (now (addresses .exit)) (now (links .exit)) (now (deleters .exit)) (now (row .exit)) r ≡ freshList (now (addresses .entry)) (now (links .entry)) (now (deleters .entry)) (now (row .entry)) nodes processes ⌝ }
+    ensures { λ r. ⌜ listLeft (now (addresses .exit)) (now (links .exit)) (now (deleters .exit)) (now (row .exit)) r ≡
+        freshList (now (addresses .entry)) (now (links .entry)) (now (deleters .entry)) (now (row .entry)) nodes processes ⌝ }
 {
     let beside = fresh_beside(addresses, links, deleters, row.len(), nodes, processes);
     fresh_records(row, beside.records);

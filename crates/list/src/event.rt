@@ -21,7 +21,7 @@ use record::Record;
 use words::Sizes;
 
 // The process of an event.
-pub(crate) fn process_of(event: Event) -> Process
+pub fn process_of(event: Event) -> Process
     ensures { λ r. ⌜ r ≡ processOf event ⌝ }
 {
     match event {

@@ -12,6 +12,7 @@ mod recovery;
 mod search;
 mod step;
 
+pub use event::process_of;
 use record::Event;
 use record::Outcome;
 use record::Record;

@@ -3,6 +3,7 @@ use crate::Filled;
 use crate::Phase;
 use crate::Run;
 use list::act;
+use list::process_of;
 use record::Event;
 use record::Node;
 use record::Outcome;
@@ -37,14 +38,7 @@ fn slot_for(event: Event) -> usize
     ensures { λ r. ⌜ r ≡ slotOf (processOf event .0) ⌝ }
     ensures { λ r. ⌜ r < 64 ⌝ }
 {
-    match event {
-        Event::Insert(process, _) => slot(process),
-        Event::Delete(process, _) => slot(process),
-        Event::Find(process, _) => slot(process),
-        Event::Step(process) => slot(process),
-        Event::Stop(process) => slot(process),
-        Event::Restart(process) => slot(process),
-    }
+    slot(process_of(event))
 }
 
 // The number of the next line.

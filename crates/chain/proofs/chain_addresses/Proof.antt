@@ -1,3 +1,4 @@
+-- Tables that fit are read; else nothing is changed.
 use borrow.Author.Needs.{needs}
 use Rattle.chain.proofs.Reading.{keys-read, keys-refused}
 use Rattle.chain.proofs.chain_addresses.Statement.{statement}

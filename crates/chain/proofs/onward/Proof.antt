@@ -1,3 +1,4 @@
+-- What `judge` says of the words that were read is what the walk meets.
 use Rattle.chain.proofs.Walks.{onward-told}
 use borrow.Author.Needs.{needs}
 use Rattle.chain.proofs.onward.Statement.{statement}
@@ -5,6 +6,12 @@ use Rattle.chain.proofs.onward.Tie as tie
 
 word-at-requires : tie.Need-word-at-requires
 word-at-requires c κs = search needs
+
+target-of-requires : tie.Need-target-of-requires
+target-of-requires c κs = search needs
+
+in-use-requires : tie.Need-in-use-requires
+in-use-requires c κs = search needs
 
 rank-of-requires : tie.Need-rank-of-requires
 rank-of-requires c κs = search needs
@@ -21,4 +28,4 @@ returns c = search (needs, onward-told)
 pub onward-spec : {M : Type 1} → statement M
 onward-spec =
     tie.close
-    (tie.spec word-at-requires rank-of-requires rank-of-requires-2 judge-requires returns)
+    (tie.spec word-at-requires target-of-requires in-use-requires rank-of-requires rank-of-requires-2 judge-requires returns)

@@ -1,3 +1,4 @@
+-- A next node is the one met, with its address; whatever else is met ends the walk.
 use borrow.Author.Needs.{needs}
 use Rattle.table.specs.Words.{addressAt}
 use Rattle.chain.proofs.Walks.{walked-onto, walked-ends}

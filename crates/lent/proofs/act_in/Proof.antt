@@ -1,5 +1,5 @@
--- `act_in` meets its contract: a walk of its MIR by hand, with two tests. The tables are passed on for good to `list::act` (`Acts`); the row is opened only
--- where the record of the event's process stands in it, which is copied out, and the record given is stored. Assumes nothing.
+-- `act_in` meets its contract: a walk of its MIR by hand, with two tests. The tables are passed on for good to `hand_back` (`Acts`); the row is
+-- opened only where the record of the event's process stands in it, which is copied out, and the record given is stored. Assumes nothing.
 use Rattle.walks.proofs.Kit.{Lfts, Shares, _≡_, refl, sym, ap, subst, _∙_, ℕ, _<_, _^_, lt-of-lt-of-le, leb→le, nleb→lt, ltb→lt, nltb→le, lit<, []}
 use Rattle.walks.proofs.Kit.{_∷_, List, length, set, getD, length-set, URA, fullShare, named, w64, Opd, Place, Body, seq, call, Val, vint, vptr}
 use Rattle.walks.proofs.Kit.{SProp, ent, id⊢, Lft, Share, GName, ftrue, flft, Memory, Routine, Heap, Calls, Loops, Env, WpFn, Tables, Atoms, Fun}
@@ -33,21 +33,21 @@ use Rattle.record.proofs.Record.fresh.Met as fresh-thm
 use Rattle.words.specs.declared.Sizes.{Sizes}
 use Rattle.words.proofs.Sizes as sizes-type
 use Rattle.words.proofs.Sizes.Laws as sizes-laws
-use Rattle.list.proofs.act.Symbol as act-def
-use Rattle.list.proofs.act.Symbol.{name as #act}
-use Rattle.list.proofs.act.Met as act-thm
 use Rattle.lent.specs.declared.Said.{Said}
 use Rattle.lent.specs.Lent.{leaves, actIn}
 use Rattle.lent.proofs.Said as said-type
 use Rattle.lent.proofs.Said.Laws as said-laws
-use Rattle.lent.proofs.Events.{saidOf, short-row, past-row, in-row}
+use Rattle.lent.proofs.Events.{short-row, past-row, in-row}
 use Rattle.lent.proofs.Tables.{words, tableOf, Lent, Last}
 use Rattle.lent.proofs.Acts.{ER, event-vals, event-val, SR, sizes-vals, sizes-val, DR, said-vals, said-val, advanced-is, said-is}
-use Rattle.lent.proofs.Acts.{acted-tells, acted-typed, said-typed, Acting, acts}
+use Rattle.lent.proofs.Acts.{handed-tells, handed-typed, said-typed, Acting, acts}
 use Rattle.lent.proofs.index_of as index
 use Rattle.lent.proofs.index_of.Symbol as index-def
 use Rattle.lent.proofs.index_of.Symbol.{name as #index}
 use Rattle.lent.proofs.index_of.Met as index-thm
+use Rattle.lent.proofs.hand_back.Symbol as hand-back-def
+use Rattle.lent.proofs.hand_back.Symbol.{name as #hand-back}
+use Rattle.lent.proofs.hand_back.Met as hand-back-thm
 use Rattle.lent.proofs.act_in.Key.{name as #own}
 use Rattle.lent.proofs.act_in as fn
 use Rattle.lent.proofs.act_in.Statement as stated
@@ -175,7 +175,7 @@ module _ {M : Type 1} (𝓤 : URA M) (H : Heap 𝓤) (A : Atoms 𝓤) (W : Given
       by ! (exits (refused z) (xa .now) (xl .now) (xd .now) ys (refused-is z is-z)
       (short-row (xa .now) (xl .now) (xd .now) z ys e short) refl refl refl refl)
 
-  module _ (C : Calls 𝓤 H) (Λ : Loops 𝓤 H) (fm : FmC 𝓤 H (W .laws) C) (known : Triple 𝓤 (C #act) (Acting 𝓤 H A at-mem run))
+  module _ (C : Calls 𝓤 H) (Λ : Loops 𝓤 H) (fm : FmC 𝓤 H (W .laws) C) (known : Triple 𝓤 (C #hand-back) (Acting 𝓤 H A at-mem run))
       (known-fresh : Triple 𝓤 (C #fresh) (Makes-fresh 𝓤 H A at-mem run))
       (known-index : Triple 𝓤 (C #index) (Indexing 𝓤 H A at-mem run)) (room-a : Room u32 (length (xa .now)))
       (room-l : Room u32 (length (xl .now))) (room-d : Room u32 (length (xd .now))) where
@@ -229,14 +229,14 @@ module _ {M : Type 1} (𝓤 : URA M) (H : Heap 𝓤) (A : Atoms 𝓤) (W : Given
         (and-then ! (copied ! (at 3 16) refl) (and-then ! (copied ! (at 3 18) refl) (and-then ! (copied ! (at 3 20) refl)
         (and-then ! (copied ! (at 3 4) refl) (and-then ! (copied ! (at 3 21) refl) (and-then ! (copied ! (at 3 6) refl) (no-more !)))))))
         (λ v t ads ls ds so len-a len-l len-d is.
-        land ! (from ! {i = 9} (stop !)) (init ! (at 6 9) refl (acted-typed 𝓤 H A W t _ is)) $
-        rewrite ! (at 6 9) (λ (u : Val). slot (local-at En 9) (holds u)) (acted-tells t v is) refl $
-        assigns ! (agg ! (and-then ! (field-of ! (at 6 9) 1 refl refl refl) (and-then ! (field-of ! (at 6 9) 2 refl refl refl) (no-more !))))
-        (from ! {i = 0} (stop !)) (init ! (at 6 0) refl (said-typed 𝓤 H A W (saidOf t) (said-is t _ is))) $
+        land ! (from ! {i = 9} (stop !)) (init ! (at 6 9) refl (handed-typed 𝓤 H A W t _ is)) $
+        rewrite ! (at 6 9) (λ (u : Val). slot (local-at En 9) (holds u)) (handed-tells t v is) refl $
+        assigns ! (of-opd ! (field-of ! (at 6 9) 1 refl refl refl)) (from ! {i = 0} (stop !))
+        (init ! (at 6 0) refl (said-typed 𝓤 H A W (t .said) (said-is t _ is))) $
         returns-within ! Result refl (look ! (at 6 0) refl) $ keep ! (leaving 31 6) $
         releases ! En (holds _ ∷ holds _ ∷ holds _ ∷ holds _ ∷ holds _ ∷ holds _ ∷ holds _ ∷ holds _ ∷ holds _ ∷ holds _ ∷ bare ∷ holds _
         ∷ holds _ ∷ holds _ ∷ bare ∷ holds _ ∷ holds _ ∷ holds _ ∷ holds _ ∷ holds _ ∷ holds _ ∷ holds _ ∷ []) (
-        by ! (exits (saidOf t) ads ls ds ys (said-is t _ is)
+        by ! (exits (t .said) ads ls ds ys (said-is t _ is)
         (past-row (xa .now) (xl .now) (xd .now) z ys e long ads ls ds t past so) len-a len-l len-d refl)))))
         (λ t. let within = nleb→lt (length ys) i t in let scaled = scaled-fits i (length ys) size within (room .1) in
         skips ! $ exec ! C Λ En (after 9 (code.function .body)) (atRet En Result) $
@@ -257,15 +257,14 @@ module _ {M : Type 1} (𝓤 : URA M) (H : Heap 𝓤) (A : Atoms 𝓤) (W : Given
         (and-then ! (copied ! (at 6 4) refl) (and-then ! (copied ! (at 6 29) refl) (and-then ! (copied ! (at 6 6) refl) (no-more !)))))))
         (λ v t ads ls ds so len-a len-l len-d is.
         -- [the tokens; the last deleters; the last links; the last addresses; row[i]; the others; the open borrow; obs; auth; _30 …]
-        land ! (at-local !) (init ! (at 9 10) refl (acted-typed 𝓤 H A W t _ is)) $
-        rewrite ! (at 9 10) (λ (u : Val). slot (local-at En 10) (holds u)) (acted-tells t v is) refl $
+        land ! (at-local !) (init ! (at 9 10) refl (handed-typed 𝓤 H A W t _ is)) $
+        rewrite ! (at 9 10) (λ (u : Val). slot (local-at En 10) (holds u)) (handed-tells t v is) refl $
         assigns ! (bin ! (copied ! (at 9 8) refl) (lit ! tt) scaled) (at-local !) (store ! (at 9 11) refl (tt, scaled)) $
         assigns ! (bin ! (field-of ! (at 9 5) 0 refl refl refl) (copied ! (at 9 11) refl) tt) (at-local !) (init ! (at 9 30) refl (tt, tt)) $
         rewrite ! (at 9 30) (λ (m : ℕ). slot (local-at En 30) (holds (vptr b m))) (sym (place-is size o i)) refl $
         assigns ! (of-opd ! (field-of ! (at 9 10) 0 refl refl refl)) (from ! (hop ! (look ! (at 9 30) refl) (stop !)))
         (store-raw ! 4 refl (typed 𝓤 H A W (t .advanced) _ (advanced-is t _ is))) $
-        assigns ! (agg ! (and-then ! (field-of ! (at 9 10) 1 refl refl refl) (and-then ! (field-of ! (at 9 10) 2 refl refl refl) (no-more !))))
-        (at-local !) (init ! (at 9 0) refl (said-typed 𝓤 H A W (saidOf t) (said-is t _ is))) $
+        assigns ! (of-opd ! (field-of ! (at 9 10) 1 refl refl refl)) (at-local !) (init ! (at 9 0) refl (said-typed 𝓤 H A W (t .said) (said-is t _ is))) $
         move ! (4 ∷ 5 ∷ []) $ puts ! ys i (t .advanced) b o (advanced-is t _ is) within $ move ! (0 ∷ 5 ∷ 6 ∷ 7 ∷ []) $
         closes-slice ! tt R ys (set ys i (t .advanced)) (length-set ys i (t .advanced)) b o $
         row-back ! (named 3) ys (set ys i (t .advanced)) b o room (length-set ys i (t .advanced)) $
@@ -275,11 +274,11 @@ module _ {M : Type 1} (𝓤 : URA M) (H : Heap 𝓤) (A : Atoms 𝓤) (W : Given
         releases ! En (holds _ ∷ holds _ ∷ holds _ ∷ holds _ ∷ holds _ ∷ holds _ ∷ holds _ ∷ holds _ ∷ holds _ ∷ bare ∷ holds _ ∷ holds _
         ∷ holds _ ∷ holds _ ∷ bare ∷ bare ∷ bare ∷ bare ∷ bare ∷ bare ∷ bare ∷ bare ∷ holds _ ∷ holds _ ∷ holds _ ∷ holds _ ∷ holds _ ∷ holds _
         ∷ holds _ ∷ holds _ ∷ holds _ ∷ []) (
-        by ! (exits (saidOf t) ads ls ds (set ys i (t .advanced)) (said-is t _ is)
+        by ! (exits (t .said) ads ls ds (set ys i (t .advanced)) (said-is t _ is)
         (in-row (xa .now) (xl .now) (xd .now) z ys e long ads ls ds t so) len-a len-l len-d (length-set ys i (t .advanced))))))))))
 
 meets : {M : Type 1} (𝓤 : URA M) (H : Heap 𝓤) (A : Atoms 𝓤) → Given 𝓤 H A → (at-mem : Memory → SProp 𝓤) (run : Routine → Fun 𝓤) (𝓣 : Tables 𝓤 H)
-    → Triple 𝓤 (𝓣 .C #act) (Acting 𝓤 H A at-mem run) → Triple 𝓤 (𝓣 .C #fresh) (Makes-fresh 𝓤 H A at-mem run)
+    → Triple 𝓤 (𝓣 .C #hand-back) (Acting 𝓤 H A at-mem run) → Triple 𝓤 (𝓣 .C #fresh) (Makes-fresh 𝓤 H A at-mem run)
     → Triple 𝓤 (𝓣 .C #index) (Indexing 𝓤 H A at-mem run)
     → Meets 𝓤 H A fn.signature (WpFn 𝓤 H (𝓣 .C) (𝓣 .Λ) code.function) (fn.spec 𝓤 H A at-mem run)
 meets 𝓤 H A W at-mem run 𝓣 known known-fresh known-index =
@@ -301,7 +300,7 @@ act-in-spec 𝓤 H 𝓜 𝓖 𝓡 =
     entered 𝓤 H (tripleOf 𝓤 H (𝓖 .A) fn.signature (fn.spec 𝓤 H (𝓖 .A) (𝓜 .mem) (𝓡 .run))) (tables 𝓤 H 𝓜 𝓡 code.env .C)
     (tables 𝓤 H 𝓜 𝓡 code.env .Λ) #own code.function (code.unfolded 𝓤 H 𝓜 𝓡)
     (meets 𝓤 H (𝓖 .A) (givenOf 𝓤 H 𝓜 𝓖) (𝓜 .mem) (𝓡 .run) (tablesOf 𝓤 H 𝓜 (tables 𝓤 H 𝓜 𝓡 code.env))
-    (cited 𝓤 H (Acting 𝓤 H (𝓖 .A) (𝓜 .mem) (𝓡 .run)) 𝓜 𝓡 code.env #act act-def.routine code.calls-list·act (act-thm.met 𝓤 H 𝓜 𝓖 𝓡))
+    (cited 𝓤 H (Acting 𝓤 H (𝓖 .A) (𝓜 .mem) (𝓡 .run)) 𝓜 𝓡 code.env #hand-back hand-back-def.routine code.calls-lent·hand-back (hand-back-thm.met 𝓤 H 𝓜 𝓖 𝓡))
     (cited 𝓤 H (Makes-fresh 𝓤 H (𝓖 .A) (𝓜 .mem)
     (𝓡 .run)) 𝓜 𝓡 code.env #fresh fresh-def.routine code.calls-record·Record·fresh (fresh-thm.met 𝓤 H 𝓜 𝓖 𝓡))
     (cited 𝓤 H (Indexing 𝓤 H (𝓖 .A) (𝓜 .mem) (𝓡 .run)) 𝓜 𝓡 code.env #index index-def.routine code.calls-lent·index-of (index-thm.met 𝓤 H 𝓜 𝓖 𝓡)))

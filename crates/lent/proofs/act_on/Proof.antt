@@ -1,9 +1,9 @@
 -- `act_on` meets its contract: a walk of its MIR by hand. The record's borrow is opened and the record copied out; the tables are passed on for good to
--- `list::act` (`Acts`); the record that it gives is stored, and the borrow is closed. Assumes nothing.
+-- `hand_back` (`Acts`); the record that it gives is stored, and the borrow is closed. Assumes nothing.
 use Rattle.walks.proofs.Kit.{Lfts, Shares, Contract, _≡_, refl, ℕ, [], _∷_, List, length, URA, fullShare, named, Val, vptr, SProp, ent, Lft, Share}
 use Rattle.walks.proofs.Kit.{GName, ftrue, flft, fobs, fbor, Memory, Routine, Heap, Calls, Loops, WpFn, Tables, Atoms, Fun, givenOf, tables}
 use Rattle.walks.proofs.Kit.{tablesOf, Given, Item, ‵, _⊛_, ⋆, _$_, _∵_, !, qed, by, move, keep, drop, split, join, rewrite, fsplit, fsplit3, fjoin}
-use Rattle.walks.proofs.Kit.{fjoin3, feqI, suffices, frame, done, look, look-raw, init, store-raw, stop, hop, from, load, of-opd, agg, and-then}
+use Rattle.walks.proofs.Kit.{fjoin3, feqI, suffices, frame, done, look, look-raw, init, store-raw, stop, hop, from, load, of-opd, and-then}
 use Rattle.walks.proofs.Kit.{no-more, assigns, land, returns, enter, params1, pass1, pass0, FmC, fmOf, WpFn-mono, owns, Is, shows, mem, Behind, u32}
 use Rattle.walks.proofs.Kit.{RefT, MutRef, ptr-vals, mut-tells, slice-vals, mut-slice-tells, MutSlice, Room, opens, closes, spelt, owned, peeks}
 use Rattle.walks.proofs.Kit.{nothing, Triple, onEntry, Args, Meets, tripleOf, entered, cited, says, Stays, stay-ref, gave-slice, stay-none, walkOf}
@@ -18,18 +18,17 @@ use Rattle.record.specs.declared.Event.{Event}
 use Rattle.record.proofs.Event as event-type
 use Rattle.record.proofs.Event.Laws as event-laws
 use Rattle.words.specs.declared.Sizes.{Sizes}
-use Rattle.list.specs.declared.Acted.{Acted}
 use Rattle.words.proofs.Sizes as sizes-type
 use Rattle.words.proofs.Sizes.Laws as sizes-laws
-use Rattle.list.proofs.act.Symbol as act-def
-use Rattle.list.proofs.act.Symbol.{name as #act}
-use Rattle.list.proofs.act.Met as act-thm
+use Rattle.lent.specs.declared.Handed.{Handed}
 use Rattle.lent.proofs.Said as said-type
 use Rattle.lent.proofs.Said.Laws as said-laws
-use Rattle.lent.proofs.Events.{saidOf}
 use Rattle.lent.proofs.Tables.{words, tableOf, Last}
 use Rattle.lent.proofs.Acts.{ER, event-vals, event-val, SR, sizes-vals, sizes-val, DR, said-vals, said-val, advanced-is, said-is}
-use Rattle.lent.proofs.Acts.{acted-tells, acted-typed, said-typed, Acting, Acts-so, acts}
+use Rattle.lent.proofs.Acts.{handed-tells, handed-typed, said-typed, Acting, Acts-so, acts}
+use Rattle.lent.proofs.hand_back.Symbol as hand-back-def
+use Rattle.lent.proofs.hand_back.Symbol.{name as #hand-back}
+use Rattle.lent.proofs.hand_back.Met as hand-back-thm
 use Rattle.lent.proofs.act_on.Key.{name as #own}
 use Rattle.lent.proofs.act_on as fn
 use Rattle.lent.proofs.act_on.Statement as stated
@@ -68,18 +67,18 @@ module _ {M : Type 1} (𝓤 : URA M) (H : Heap 𝓤) (A : Atoms 𝓤) (W : Given
   abbrev Result : Val → SProp 𝓤
   Result = Walked .post ghost
 
-  module _ (t : Acted) (ads ls ds : List ℕ) where
+  module _ (t : Handed) (ads ls ds : List ℕ) where
     -- [obs; the record's borrow; κ₃; the tables' last words]
     abbrev Closed : List (Item 𝓤)
     Closed = ‵ (fobs γ (R .coded .code (t .advanced))) ∷ ‵ (fbor κ₃ (Behind (mem R) b o γ)) ∷ ‵ (flft κ₃ q₃)
         ∷ Last 𝓤 κ₀ κ₁ κ₂ q₀ q₁ q₂ xa xl xd ads ls ds []
 
-    exits : Is DR (saidOf t) (said-vals (saidOf t)) → Acts-so 𝓤 H A at-mem run W κ₀ κ₁ κ₂ q₀ q₁ q₂ xa xl xd z h e ads ls ds t
+    exits : Is DR (t .said) (said-vals (t .said)) → Acts-so 𝓤 H A at-mem run W κ₀ κ₁ κ₂ q₀ q₁ q₂ xa xl xd z h e ads ls ds t
         → length ads ≡ length (xa .now) → length ls ≡ length (xl .now) → length ds ≡ length (xd .now)
-        → ent 𝓤 (⋆ 𝓤 H A Closed) (Result (said-val (saidOf t)))
+        → ent 𝓤 (⋆ 𝓤 H A Closed) (Result (said-val (t .said)))
     exits is so len-a len-l len-d =
         qed W Closed ∵
-        suffices ! _ (ends-at 𝓤 H A fn.ended stayed (fn.clauses 𝓤 H A at-mem run) W ghost (said-val (saidOf t)) (saidOf t)
+        suffices ! _ (ends-at 𝓤 H A fn.ended stayed (fn.clauses 𝓤 H A at-mem run) W ghost (said-val (t .said)) (t .said)
         (ads, (ls, (ds, (tt, (t .advanced, (tt, tt)))))) (len-a, (len-l, (len-d, (tt, (tt, (tt, tt))))))) $ says ! so $
         -- the tokens
         move ! (3 ∷ []) $ split ! $ move ! (1 ∷ []) $ split ! $ move ! (1 ∷ []) $ split ! $ move ! (6 ∷ 1 ∷ []) $ join ! $ move ! (1 ∷ 0 ∷ []) $
@@ -89,9 +88,9 @@ module _ {M : Type 1} (𝓤 : URA M) (H : Heap 𝓤) (A : Atoms 𝓤) (W : Given
         owned ! ER (Is ER) (enum.makes event-type.the-type event-laws.the-plain 𝓤 H A) e _ is-e $ fjoin ! $ move ! (1 ∷ 0 ∷ []) $ fjoin ! $
         owned ! SR (Is SR) (struct.makes sizes-type.the-type sizes-laws.the-plain 𝓤 H A) z _ is-z $ fjoin ! $ move ! (1 ∷ 0 ∷ []) $ fjoin ! $
         move ! (1 ∷ 0 ∷ []) $ fjoin ! $ move ! (1 ∷ 0 ∷ []) $ fjoin ! $
-        owned ! DR (Is DR) (struct.makes said-type.the-type said-laws.the-plain 𝓤 H A) (saidOf t) _ is $ move ! (1 ∷ 0 ∷ []) $ done !
+        owned ! DR (Is DR) (struct.makes said-type.the-type said-laws.the-plain 𝓤 H A) (t .said) _ is $ move ! (1 ∷ 0 ∷ []) $ done !
 
-  walk : (C : Calls 𝓤 H) (Λ : Loops 𝓤 H) → FmC 𝓤 H (W .laws) C → Triple 𝓤 (C #act) (Acting 𝓤 H A at-mem run) → Room u32 (length (xa .now))
+  walk : (C : Calls 𝓤 H) (Λ : Loops 𝓤 H) → FmC 𝓤 H (W .laws) C → Triple 𝓤 (C #hand-back) (Acting 𝓤 H A at-mem run) → Room u32 (length (xa .now))
       → Room u32 (length (xl .now)) → Room u32 (length (xd .now))
       → ent 𝓤 (onEntry 𝓤 H A fn.signature κs qs a vss) (WpFn 𝓤 H C Λ code.function
       (tableOf xa ∷ tableOf xl ∷ tableOf xd ∷ sizes-val z ∷ vptr b o ∷ event-val e ∷ []) Result)
@@ -124,12 +123,11 @@ module _ {M : Type 1} (𝓤 : URA M) (H : Heap 𝓤) (A : Atoms 𝓤) (W : Given
       (and-then ! (copied ! (at 6 4) refl) (and-then ! (copied ! (at 6 14) refl) (and-then ! (copied ! (at 6 6) refl) (no-more !)))))))
       (λ v t ads ls ds so len-a len-l len-d is.
       -- [the tokens; the last deleters; the last links; the last addresses; the record's cell; the open borrow; obs; auth; true; _14 …]
-      land ! (at-local !) (init ! (at 9 7) refl (acted-typed 𝓤 H A W t _ is)) $
-      rewrite ! (at 9 7) (λ (u : Val). slot (local-at En 7) (holds u)) (acted-tells t v is) refl $
+      land ! (at-local !) (init ! (at 9 7) refl (handed-typed 𝓤 H A W t _ is)) $
+      rewrite ! (at 9 7) (λ (u : Val). slot (local-at En 7) (holds u)) (handed-tells t v is) refl $
       assigns ! (of-opd ! (field-of ! (at 9 7) 0 refl refl refl)) (from ! (hop ! (look ! (at 9 5) refl) (stop !)))
       (store-raw ! 4 refl (typed 𝓤 H A W (t .advanced) _ (advanced-is t _ is))) $
-      assigns ! (agg ! (and-then ! (field-of ! (at 9 7) 1 refl refl refl) (and-then ! (field-of ! (at 9 7) 2 refl refl refl) (no-more !))))
-      (at-local !) (init ! (at 9 0) refl (said-typed 𝓤 H A W (saidOf t) (said-is t _ is))) $
+      assigns ! (of-opd ! (field-of ! (at 9 7) 1 refl refl refl)) (at-local !) (init ! (at 9 0) refl (said-typed 𝓤 H A W (t .said) (said-is t _ is))) $
       owned ! R (Is R) (makes 𝓤 H A) (t .advanced) _ (advanced-is t _ is) $ move ! (5 ∷ 0 ∷ 6 ∷ 7 ∷ 8 ∷ []) $
       closes ! tt R (t .advanced) (vals (t .advanced)) b o $ move ! (7 ∷ []) $ drop ! $
       returns ! (look ! (at 7 0) refl) $ keep ! (leaving 15 7) $
@@ -138,7 +136,7 @@ module _ {M : Type 1} (𝓤 : URA M) (H : Heap 𝓤) (A : Atoms 𝓤) (W : Given
       by ! (exits t ads ls ds (said-is t _ is) so len-a len-l len-d))))))
 
 meets : {M : Type 1} (𝓤 : URA M) (H : Heap 𝓤) (A : Atoms 𝓤) → Given 𝓤 H A → (at-mem : Memory → SProp 𝓤) (run : Routine → Fun 𝓤) (𝓣 : Tables 𝓤 H)
-    → Triple 𝓤 (𝓣 .C #act) (Acting 𝓤 H A at-mem run)
+    → Triple 𝓤 (𝓣 .C #hand-back) (Acting 𝓤 H A at-mem run)
     → Meets 𝓤 H A fn.signature (WpFn 𝓤 H (𝓣 .C) (𝓣 .Λ) code.function) (fn.spec 𝓤 H A at-mem run)
 meets 𝓤 H A W at-mem run 𝓣 known =
     walk-meets 𝓤 H A fn.ended stayed W (goes-gave-slice 𝓤 H A W 4 0 tt words, (goes-gave-slice 𝓤 H A W 4 1 tt words, (goes-gave-slice 𝓤 H A W 4 2 tt words, (goes-none 𝓤 H A W 4 (λ _. SR) yes (λ κs x f. refl), (goes-ref 𝓤 H A W 4 3 tt records, (goes-none 𝓤 H A W 4 (λ _. ER) yes (λ κs x f. refl), tt))))))
@@ -159,4 +157,5 @@ act-on-spec 𝓤 H 𝓜 𝓖 𝓡 =
     entered 𝓤 H (tripleOf 𝓤 H (𝓖 .A) fn.signature (fn.spec 𝓤 H (𝓖 .A) (𝓜 .mem) (𝓡 .run))) (tables 𝓤 H 𝓜 𝓡 code.env .C)
     (tables 𝓤 H 𝓜 𝓡 code.env .Λ) #own code.function (code.unfolded 𝓤 H 𝓜 𝓡)
     (meets 𝓤 H (𝓖 .A) (givenOf 𝓤 H 𝓜 𝓖) (𝓜 .mem) (𝓡 .run) (tablesOf 𝓤 H 𝓜 (tables 𝓤 H 𝓜 𝓡 code.env))
-    (cited 𝓤 H (Acting 𝓤 H (𝓖 .A) (𝓜 .mem) (𝓡 .run)) 𝓜 𝓡 code.env #act act-def.routine code.calls-list·act (act-thm.met 𝓤 H 𝓜 𝓖 𝓡)))
+    (cited 𝓤 H (Acting 𝓤 H (𝓖 .A) (𝓜 .mem) (𝓡 .run))
+    𝓜 𝓡 code.env #hand-back hand-back-def.routine code.calls-lent·hand-back (hand-back-thm.met 𝓤 H 𝓜 𝓖 𝓡)))

@@ -1,5 +1,4 @@
--- A row too short, a list that fits, a list that does not: what is left to do of the row makes it what the whole promises.
-use mathlib.Core.Path.{sym, _∙_}
+-- A row too short, tables that were refused, tables made fresh: what is left to do of the row makes it what the whole promises.
 use native.Mathlib.Omega.{arith}
 use borrow.Author.Needs.{needs}
 use Rattle.lent.proofs.Freshness.{row-refused, list-refused, list-laid}
@@ -9,11 +8,14 @@ use Rattle.lent.proofs.fresh_beside.Tie as tie
 returns : tie.Need-returns
 returns c = (search needs, λ row e. row-refused _ _ _ row _ _ (omega arith))
 
-fresh-fits-requires : tie.Need-fresh-fits-requires
-fresh-fits-requires c κs = search needs
+fresh-tables-requires : tie.Need-fresh-tables-requires
+fresh-tables-requires c κs = search needs
 
-fresh-words-requires : tie.Need-fresh-words-requires
-fresh-words-requires c κs = sym (c .before .before .before .before .fresh-fits .ensures) ∙ c .before .before .before .if2 .taken
+enum-told : tie.Need-enum-told
+enum-told c = search needs
+
+enum-told-2 : tie.Need-enum-told-2
+enum-told-2 c = search needs
 
 same-length : tie.Need-same-length
 same-length c = search needs
@@ -26,11 +28,8 @@ same-length-3 c = search needs
 
 returns-2 : tie.Need-returns-2
 returns-2 c =
-    let call = c .before .before .before .before .before .before in let test = call .before .before .before .before in (
-      search needs,
-      λ row e. list-laid _ _ _ row _ _ _ _ _ _ _ (omega arith) (test .before .fresh-fits .ensures) (test .if2 .taken)
-          (call .fresh-words .ensures),
-    )
+    let call = c .before .before .before .before .before .before .before .before in
+    (search needs, λ row e. list-refused _ _ _ row _ _ _ _ _ _ (omega arith) (call .fresh-tables .ensures) _ (c .enum-told .given .1))
 
 same-length-4 : tie.Need-same-length-4
 same-length-4 c = search needs
@@ -42,8 +41,23 @@ same-length-6 : tie.Need-same-length-6
 same-length-6 c = search needs
 
 returns-3 : tie.Need-returns-3
-returns-3 c = (search needs, λ row e. list-refused _ _ _ row _ _ _ (c .before .fresh-fits .ensures) (c .if2 .left))
+returns-3 c =
+    let call = c .before .before .before .before .before .before .before .before in
+    (search needs, λ row e. list-laid _ _ _ row _ _ _ _ _ _ (omega arith) (call .fresh-tables .ensures) _ (c .enum-told2 .given .1))
 
 pub fresh-beside-spec : {M : Type 1} → statement M
 fresh-beside-spec =
-    tie.close (tie.spec returns fresh-fits-requires fresh-words-requires same-length same-length-2 same-length-3 returns-2 same-length-4 same-length-5 same-length-6 returns-3)
+    tie.close
+    (tie.spec
+    returns
+    fresh-tables-requires
+    enum-told
+    enum-told-2
+    same-length
+    same-length-2
+    same-length-3
+    returns-2
+    same-length-4
+    same-length-5
+    same-length-6
+    returns-3)

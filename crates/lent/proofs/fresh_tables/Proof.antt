@@ -1,15 +1,26 @@
--- Where the list fits, the words are those of `fresh_words`; where it does not, nothing is changed.
-use mathlib.Core.Path.{sym, _∙_}
+-- Tables that fit are long enough, and the words laid are a fresh list's; where they do not, nothing is changed.
 use borrow.Author.Needs.{needs}
-use Rattle.lent.proofs.Freshness.{tables-refused}
+use Rattle.lent.proofs.Freshness.{addresses-hold, links-hold, deleters-hold, two-nodes, words-laid, tables-refused}
 use Rattle.lent.proofs.fresh_tables.Statement.{statement}
 use Rattle.lent.proofs.fresh_tables.Tie as tie
 
-fresh-fits-requires : tie.Need-fresh-fits-requires
-fresh-fits-requires c κs = search needs
+tables-fit-requires : tie.Need-tables-fit-requires
+tables-fit-requires c κs = search needs
 
-fresh-words-requires : tie.Need-fresh-words-requires
-fresh-words-requires c κs = sym (c .before .before .before .before .fresh-fits .ensures) ∙ c .before .before .before .if1 .taken
+clear-requires : tie.Need-clear-requires
+clear-requires c κs =
+    let test = c .before in addresses-hold _ _ _ _ _ _ (test .before .tables-fit .ensures) (test .if1 .taken)
+
+fresh-links-requires : tie.Need-fresh-links-requires
+fresh-links-requires c κs =
+    let test = c .before .before .before .before .before in
+    let told = test .before .tables-fit .ensures in
+    (two-nodes _ _ _ _ _ _ told (test .if1 .taken), links-hold _ _ _ _ _ _ told (test .if1 .taken))
+
+clear-requires-2 : tie.Need-clear-requires-2
+clear-requires-2 c κs =
+    let test = c .before .before .before .before .before .before .before .before .before in
+    deleters-hold _ _ _ _ _ _ (test .before .tables-fit .ensures) (test .if1 .taken)
 
 same-length : tie.Need-same-length
 same-length c = search needs
@@ -21,7 +32,7 @@ same-length-3 : tie.Need-same-length-3
 same-length-3 c = search needs
 
 returns : tie.Need-returns
-returns c = search needs
+returns c = search (needs, words-laid)
 
 same-length-4 : tie.Need-same-length-4
 same-length-4 c = search needs
@@ -33,8 +44,21 @@ same-length-6 : tie.Need-same-length-6
 same-length-6 c = search needs
 
 returns-2 : tie.Need-returns-2
-returns-2 c = tables-refused _ _ _ _ _ _ (c .before .fresh-fits .ensures) (c .if1 .left)
+returns-2 c = search (needs, tables-refused)
 
 pub fresh-tables-spec : {M : Type 1} → statement M
 fresh-tables-spec =
-    tie.close (tie.spec fresh-fits-requires fresh-words-requires same-length same-length-2 same-length-3 returns same-length-4 same-length-5 same-length-6 returns-2)
+    tie.close
+    (tie.spec
+    tables-fit-requires
+    clear-requires
+    fresh-links-requires
+    clear-requires-2
+    same-length
+    same-length-2
+    same-length-3
+    returns
+    same-length-4
+    same-length-5
+    same-length-6
+    returns-2)
