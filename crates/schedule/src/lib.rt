@@ -11,7 +11,6 @@ use record::Process;
 pub use writing::write_event;
 pub use writing::write_header;
 ghost use mathlib.Core.Path.{_≡_};
-ghost use Rattle.table.specs.Events.{sizesFit};
 ghost use Rattle.schedule.specs.Cursors.{start};
 
 // The sizes that a schedule asks for.
@@ -63,22 +62,4 @@ impl Cursor {
             left: 0,
         }
     }
-}
-
-// Whether a header's sizes are within the limits.
-pub(crate) fn sizes_fit(header: Header) -> bool
-    ensures { λ r. ⌜ r ≡ sizesFit (header .nodes) (header .processes) ⌝ }
-{
-    let nodes = header.nodes;
-    let processes = header.processes;
-    if nodes < 2 {
-        return false;
-    }
-    if 4096 < nodes {
-        return false;
-    }
-    if processes < 1 {
-        return false;
-    }
-    processes <= 64
 }

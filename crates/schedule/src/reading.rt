@@ -5,7 +5,6 @@ use crate::Header;
 use crate::HeaderRead;
 use crate::NumberRead;
 use crate::numbers::read_number;
-use crate::sizes_fit;
 use record::Address;
 use record::Event;
 use record::Process;
@@ -32,7 +31,7 @@ fn sized(nodes: u32, processes: u32, next: usize) -> HeaderRead
     ensures { λ r. ⌜ r ≡ sizedAt nodes processes next ⌝ }
 {
     let header = Header { nodes, processes };
-    let fit = sizes_fit(header);
+    let fit = words::sizes_fit(nodes, processes);
     if fit {
         let after = cursor_at(next);
         return HeaderRead::Got(header, after);

@@ -1,7 +1,6 @@
 // The writer: a header or an event into the rest of the output. Room is judged before anything is written.
 use crate::Header;
 use crate::Written;
-use crate::sizes_fit;
 use record::Address;
 use record::Event;
 use record::Process;
@@ -182,7 +181,7 @@ fn numbers_of(event: Event) -> Numbers
 pub fn write_header(out: &mut [u8], at: usize, header: Header) -> Written
     ensures { λ r. ⌜ answered (now (out .exit)) at r ≡ writtenHeader header (now (out .entry)) at ⌝ }
 {
-    let fit = sizes_fit(header);
+    let fit = words::sizes_fit(header.nodes, header.processes);
     if fit {
         let numbers = two_numbers(header.nodes, header.processes);
         return write_numbers(out, at, numbers);
