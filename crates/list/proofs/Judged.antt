@@ -8,7 +8,7 @@ use lib.Dec.{leb, ltb, eqb}
 use lib.ListN.{length, set}
 use borrow.Author.Tests.{leb-true, ltb-true, eq-eqb, ne-eqb}
 use Rattle.record.specs.Record.{tailNode, requested, wentDown, restarted, node, noNode, Inserts, Deletes, Finds}
-use Rattle.record.specs.Event.{processOf}
+use Rattle.record.specs.Event.{processOf, refusalIn}
 use Rattle.record.specs.declared.Process.{Process}
 use Rattle.record.specs.declared.Address.{Address}
 use Rattle.record.specs.declared.Record.{Record}
@@ -21,19 +21,11 @@ use Rattle.table.specs.Events as table
 use Rattle.words.specs.declared.Sizes.{Sizes}
 use Rattle.list.specs.declared.Acted.{Acted}
 use Rattle.list.specs.Acting.{Left, left, leftOf, actOn, counted}
-use Rattle.list.specs.Parts.{answered, stepped, Within, refusalIn}
+use Rattle.list.specs.Parts.{answered, stepped, Within}
 use Rattle.list.proofs.Tested.{and-left, and-right}
 
--- the first refusal of the three tests
-pub in-order : (fits there ready : Bool) →
-    cond (eqb (cond fits 0 7) 0) (cond (eqb (cond there 0 1) 0) (cond ready 0 2) (cond there 0 1)) (cond fits 0 7) ≡ refusalIn fits there ready
-unfolding refusalIn
-in-order true true ready = refl
-in-order true false ready = refl
-in-order false there ready = refl
-
 -- where no test refuses, each holds
-pub none-refuses : (fits there ready : Bool) (refusal : ℕ) → refusal ≡ refusalIn fits there ready → refusal ≡ 0 →
+none-refuses : (fits there ready : Bool) (refusal : ℕ) → refusal ≡ refusalIn fits there ready → refusal ≡ 0 →
     (fits ≡ true) × (there ≡ true) × (ready ≡ true)
 unfolding refusalIn
 none-refuses true true true refusal is e = (refl, refl, refl)
@@ -50,28 +42,6 @@ first-refuses true true true refusal m r d is some = absurd (some is)
 first-refuses true true false refusal m r d is some = rw is
 first-refuses true false ready refusal m r d is some = rw is
 first-refuses false there ready refusal m r d is some = rw is
-
-module _ (addresses links deleters : List ℕ) (sizes : Sizes) (r : Record) (e : Event) where
-  abbrev m : Memory
-  m = memory addresses links deleters (sizes .count)
-
-  -- the three tests of an event
-  abbrev Tested : (refusal : ℕ) → Type 0
-  Tested refusal =
-      refusal ≡ refusalIn (tablesFit (sizes .nodes) (sizes .processes) m) (ltb (processOf e .0) (sizes .processes))
-      (eqb (r .kept .status) (statusNeeded e))
-
-  pub refuses : (refusal : ℕ) → Tested refusal → (refusal ≡ 0 → ⊥) → (a : Acted) → a ≡ answered sizes r (Refused refusal) →
-      left addresses links deleters a ≡ actOn addresses links deleters sizes r e
-  unfolding actOn act
-  refuses refusal is some a made = rw (made, ← first-refuses _ _ _ refusal m r (does (sizes .nodes) m r e) is some)
-
-  pub acts : (refusal : ℕ) → Tested refusal → refusal ≡ 0 → (x : Left) → x ≡ leftOf sizes (does (sizes .nodes) m r e) →
-      x ≡ actOn addresses links deleters sizes r e
-  unfolding actOn act
-  acts refusal is none x made =
-      let tests = none-refuses _ _ _ refusal is none in
-      made ∙ rw (tests .0, tests .1, tests .2)
 
 -- what tables that fit hold
 module _ (addresses links deleters : List ℕ) (sizes : Sizes)
@@ -107,20 +77,48 @@ module _ (addresses links deleters : List ℕ) (sizes : Sizes)
   few-nodes : (leb 2 nodes && leb nodes 4096) ≡ true
   few-nodes = and-left (leb 2 nodes && leb nodes 4096) (leb 1 (sizes .processes)) (and-left limits (leb (sizes .processes) 64) sizes-too)
 
-  pub within : Within sizes
+  within : Within sizes
   within =
       record {
         few = leb-true nodes 4096 (and-right (leb 2 nodes) (leb nodes 4096) few-nodes);
         given = leb-true (sizes .count) nodes (and-right (long && leb 2 (sizes .count)) (leb (sizes .count) nodes) all-fit);
       }
 
-  pub few-processes : (p : Process) → ltb (p .0) (sizes .processes) ≡ true → p .0 < 64
+  few-processes : (p : Process) → ltb (p .0) (sizes .processes) ≡ true → p .0 < 64
   few-processes p there =
       omega (
         arith,
         ltb-true (p .0) (sizes .processes) there,
         leb-true (sizes .processes) 64 (and-right limits (leb (sizes .processes) 64) sizes-too),
       )
+
+-- what the calls of `act` told: the tests of the tables, of the process and of the status, and the first refusal of the three
+module _ (addresses links deleters : List ℕ) (sizes : Sizes) (r : Record) (e : Event) (fits : Bool) (q : Process) (needed refusal : ℕ)
+    (f : fits ≡ tablesFit (sizes .nodes) (sizes .processes) (memory addresses links deleters (sizes .count)))
+    (t : q ≡ processOf e) (s : needed ≡ statusNeeded e)
+    (is : refusal ≡ refusalIn fits (ltb (q .0) (sizes .processes)) (eqb (r .kept .status) needed)) where
+  abbrev m : Memory
+  m = memory addresses links deleters (sizes .count)
+
+  abbrev tested : refusal ≡ refusalIn (tablesFit (sizes .nodes) (sizes .processes) m) (ltb (processOf e .0) (sizes .processes))
+      (eqb (r .kept .status) (statusNeeded e))
+  tested = is ∙ rw (f, t, s)
+
+  pub refuses : (refusal ≡ 0 → ⊥) → (a : Acted) → a ≡ answered sizes r (Refused refusal) →
+      left addresses links deleters a ≡ actOn addresses links deleters sizes r e
+  unfolding actOn act
+  refuses some a made = rw (made, ← first-refuses _ _ _ refusal m r (does (sizes .nodes) m r e) tested some)
+
+  pub acts : refusal ≡ 0 → (x : Left) → x ≡ leftOf sizes (does (sizes .nodes) m r e) → x ≡ actOn addresses links deleters sizes r e
+  unfolding actOn act
+  acts none x made =
+      let tests = none-refuses _ _ _ refusal tested none in
+      made ∙ rw (tests .0, tests .1, tests .2)
+
+  pub able : refusal ≡ 0 → Within sizes × (processOf e .0 < 64)
+  able none =
+      let tests = none-refuses _ _ _ refusal tested none in
+      (within addresses links deleters sizes (tests .0), few-processes addresses links deleters sizes (tests .0) (processOf e) (tests .1))
 
 -- what each kind does
 module _ (addresses links deleters : List ℕ) (sizes : Sizes) (r : Record) (e : Event) where

@@ -64,12 +64,6 @@ goalOf recovering at-own inserts same pending =
     cond recovering (cond at-own (goal 18 True) (goal 14 pending))
     (cond inserts (cond same (goal 18 False) (goal 3 pending)) (cond same (goal 5 pending) (goal 18 False)))
 
--- ---- events
-
--- "Order for an event: 7, 1, 2", 0 for none of them, by the answers to their tests
-unfoldable pub refusalIn : (fits there ready : Bool) → ℕ
-refusalIn fits there ready = cond fits (cond there (cond ready 0 2) 1) 7
-
 -- what the place table's step leaves, table by table
 unfoldable pub stepped : List ℕ → List ℕ → List ℕ → Sizes → Process → Record → Left
 stepped addresses links deleters sizes p r = leftOf sizes (stepOf (memory addresses links deleters (sizes .count)) p r)

@@ -1,14 +1,12 @@
-// One event: its process and the status that it needs, its refusals in their order, and what each kind does. Rests on the step.
+// One event: its process and the status that it needs, and what each kind does. Rests on the step.
 ghost use mathlib.Core.Path.{_≡_};
-ghost use mathlib.Core.Bool.{cond};
 ghost use Prim.Native.Nat.{_<_};
-ghost use lib.Dec.{eqb};
 ghost use Rattle.record.specs.Event.{processOf};
 ghost use Rattle.record.specs.declared.Event.the-variants as of;
 ghost use Rattle.table.specs.Words.{memory};
 ghost use Rattle.table.specs.Events.{does, statusNeeded};
 ghost use Rattle.list.specs.Acting.{left, leftOf};
-ghost use Rattle.list.specs.Parts.{Within, refusalIn};
+ghost use Rattle.list.specs.Parts.{Within};
 use crate::Acted;
 use crate::access;
 use crate::answers;
@@ -46,36 +44,6 @@ pub(crate) fn status_needed(event: Event) -> u8
         Event::Stop(_) => 1,
         Event::Restart(_) => 2,
     }
-}
-
-// Where a test fails, its refusal; else 0.
-fn unless(holds: bool, refusal: u8) -> u8
-    ensures { λ r. ⌜ r ≡ cond holds 0 refusal ⌝ }
-{
-    if holds {
-        return 0;
-    }
-    refusal
-}
-
-// The first refusal of three, or 0.
-fn first(one: u8, two: u8, three: u8) -> u8
-    ensures { λ r. ⌜ r ≡ cond (eqb one 0) (cond (eqb two 0) three two) one ⌝ }
-{
-    if one != 0 {
-        return one;
-    }
-    if two != 0 {
-        return two;
-    }
-    three
-}
-
-// Refusals 7, 1 and 2 in this order, from what was found of the tables, the process and the status; 0 for none.
-pub(crate) fn refusal(fits: bool, there: bool, ready: bool) -> u8
-    ensures { λ r. ⌜ r ≡ refusalIn fits there ready ⌝ }
-{
-    first(unless(fits, 7), unless(there, 1), unless(ready, 2))
 }
 
 // Insert: takes the next node, sets its address, links it unmarked to tail, deleter none.

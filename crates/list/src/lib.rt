@@ -16,6 +16,7 @@ pub use event::process_of;
 use record::Event;
 use record::Outcome;
 use record::Record;
+use record::first_refusal;
 use words::Sizes;
 
 // What an event leaves of the record and of the sizes, and its outcome.
@@ -41,7 +42,7 @@ pub fn act(
     let process = event::process_of(event);
     let there = process.0 < sizes.processes;
     let ready = record.kept.status == event::status_needed(event);
-    let refusal = event::refusal(fits, there, ready);
+    let refusal = first_refusal(fits, there, ready);
     if refusal == 0 {
         return event::does(addresses, links, deleters, sizes, record, event);
     }

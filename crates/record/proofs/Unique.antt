@@ -1,6 +1,6 @@
--- Each function of this crate promises `r ≡ x` for an x made of its arguments alone: two records that meet such a promise are equal.
+-- A promise of the form `r ≡ x`, for an x made of what was passed alone, leaves one answer: that is the form of every promise of this crate, and of
+-- many above it.
 use mathlib.Core.Path.{_≡_, sym, _∙_}
-use Rattle.record.specs.declared.Record.{Record}
 
-pub record-unique : {x a b : Record} → a ≡ x → b ≡ x → a ≡ b
-record-unique e h = e ∙ sym h
+pub answer-unique : {A : Type 0} {x a b : A} → a ≡ x → b ≡ x → a ≡ b
+answer-unique e h = e ∙ sym h

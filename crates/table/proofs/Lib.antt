@@ -1,5 +1,4 @@
 pub mod Tests
-pub mod Conds
 pub mod Meets
 pub mod LawsEvents
 pub mod LawsAccess

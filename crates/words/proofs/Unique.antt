@@ -1,14 +1,11 @@
--- Each promise of this crate leaves one outcome: that of `swap` by its table and its answer, each other is of the form `r ≡ x`, or, of `write`, of the
--- table afterwards. Rests on Lent.
+-- The promise of `swap` leaves one outcome, by its table and its answer; each other is of the form `r ≡ x`, or, of `write`, says so of the table
+-- afterwards: the record's `answer-unique`. Rests on Lent.
 use mathlib.Core.Path.{_≡_, sym, ap, _∙_}
 use mathlib.Core.Bool.{Bool}
 use mathlib.Core.List.{List}
 use Prim.Native.Nat.{ℕ}
 use Rattle.record.specs.declared.Node.{Node}
 use Rattle.words.specs.Lent.{Swapped, swapped, swapOf}
-
-pub answer-unique : {A : Type 0} {x a b : A} → a ≡ x → b ≡ x → a ≡ b
-answer-unique e h = e ∙ sym h
 
 pub swap-unique : (words : List ℕ) (n : Node) (expected new : ℕ) (words′ words″ : List ℕ) (wrote′ wrote″ : Bool) →
     swapped words′ wrote′ ≡ swapOf words n expected new →

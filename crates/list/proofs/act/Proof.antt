@@ -1,8 +1,5 @@
 -- What was found of sizes, process and status is what the event is judged by.
-use mathlib.Core.Path.{sym, ap, _∙_}
-use lib.Dec.{ltb}
-use Rattle.record.specs.declared.Process.{Process}
-use Rattle.list.proofs.Judged.{none-refuses, refuses, acts, within, few-processes}
+use Rattle.list.proofs.Judged.{refuses, acts, able}
 use borrow.Author.Needs.{needs}
 use Rattle.list.proofs.act.Statement.{statement}
 use Rattle.list.proofs.act.Tie as tie
@@ -16,16 +13,13 @@ process-of-requires c κs = search needs
 status-needed-requires : tie.Need-status-needed-requires
 status-needed-requires c κs = search needs
 
-refusal-requires : tie.Need-refusal-requires
-refusal-requires c κs = search needs
+first-refusal-requires : tie.Need-first-refusal-requires
+first-refusal-requires c κs = search needs
 
 does-requires : tie.Need-does-requires
 does-requires c κs =
-    let tests = none-refuses _ _ _ _ (c .before .before .before .before .refusal .ensures) (c .before .before .before .if1 .taken) in
-    let fits = sym (c .before .before .before .before .before .before .before .before .before .before .tables-fit .ensures) ∙ tests .0 in (
-      within _ _ _ _ fits,
-      few-processes _ _ _ _ fits _ (ap (λ (p : Process). ltb (p .0) (c .before .before .before .before .before .before .before .before .before .before .before .before .before .before .before .before .before .args .sizes .processes)) (sym (c .before .before .before .before .before .before .before .before .before .process-of .ensures)) ∙ tests .1),
-    )
+    able _ _ _ _ (c .before .before .before .before .before .before .before .before .before .before .before .before .before .before .before .before .before .args .«record») (c .before .before .before .before .before .before .before .before .before .before .before .before .before .before .before .before .before .args .event) _ _ _ _ (c .before .before .before .before .before .before .before .before .before .before .tables-fit .ensures) (c .before .before .before .before .before .before .before .before .before .process-of .ensures) (c .before .before .before .before .before .before .status-needed .ensures) (c .before .before .before .before .first-refusal .ensures)
+    (c .before .before .before .if1 .taken)
 
 same-length : tie.Need-same-length
 same-length c = search needs
@@ -38,7 +32,8 @@ same-length-3 c = search needs
 
 returns : tie.Need-returns
 returns c =
-    acts _ _ _ _ _ _ _ (c .before .before .before .before .before .before .before .before .before .before .before .refusal .ensures ∙ rw (c .before .before .before .before .before .before .before .before .before .before .before .before .before .before .before .before .before .tables-fit .ensures, c .before .before .before .before .before .before .before .before .before .before .before .before .before .before .before .before .process-of .ensures, c .before .before .before .before .before .before .before .before .before .before .before .before .before .status-needed .ensures)) (c .before .before .before .before .before .before .before .before .before .before .if1 .taken) _ (c .before .before .before .before .before .before .does .ensures)
+    acts _ _ _ _ (c .before .before .before .before .before .before .before .before .before .before .before .before .before .before .before .before .before .before .before .before .before .before .before .before .args .«record») (c .before .before .before .before .before .before .before .before .before .before .before .before .before .before .before .before .before .before .before .before .before .before .before .before .args .event) _ _ _ _ (c .before .before .before .before .before .before .before .before .before .before .before .before .before .before .before .before .before .tables-fit .ensures) (c .before .before .before .before .before .before .before .before .before .before .before .before .before .before .before .before .process-of .ensures) (c .before .before .before .before .before .before .before .before .before .before .before .before .before .status-needed .ensures) (c .before .before .before .before .before .before .before .before .before .before .before .first-refusal .ensures)
+    (c .before .before .before .before .before .before .before .before .before .before .if1 .taken) _ (c .before .before .before .before .before .before .does .ensures)
 
 refused-requires : tie.Need-refused-requires
 refused-requires c κs = search needs
@@ -54,7 +49,8 @@ same-length-6 c = search needs
 
 returns-2 : tie.Need-returns-2
 returns-2 c =
-    refuses _ _ _ _ _ _ _ (c .before .before .refusal .ensures ∙ rw (c .before .before .before .before .before .before .before .before .tables-fit .ensures, c .before .before .before .before .before .before .before .process-of .ensures, c .before .before .before .before .status-needed .ensures)) (c .before .if1 .left) _ (c .refused .ensures)
+    refuses _ _ _ _ (c .before .before .before .before .before .before .before .before .before .before .before .before .before .before .before .args .«record») (c .before .before .before .before .before .before .before .before .before .before .before .before .before .before .before .args .event) _ _ _ _ (c .before .before .before .before .before .before .before .before .tables-fit .ensures) (c .before .before .before .before .before .before .before .process-of .ensures) (c .before .before .before .before .status-needed .ensures) (c .before .before .first-refusal .ensures)
+    (c .before .if1 .left) _ (c .refused .ensures)
 
 pub act-spec : {M : Type 1} → statement M
 act-spec =
@@ -63,7 +59,7 @@ act-spec =
     tables-fit-requires
     process-of-requires
     status-needed-requires
-    refusal-requires
+    first-refusal-requires
     does-requires
     same-length
     same-length-2

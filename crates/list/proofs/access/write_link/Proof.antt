@@ -1,5 +1,5 @@
 -- A write where the row is accepted, and none where it is not.
-use Rattle.table.proofs.Conds.{conds}
+use Rattle.record.proofs.Conds.{conds}
 use borrow.Author.Needs.{needs}
 use Rattle.list.proofs.access.write_link.Statement.{statement}
 use Rattle.list.proofs.access.write_link.Tie as tie

@@ -1,5 +1,5 @@
 -- The ends, one by one.
-use Rattle.table.proofs.Conds.{conds}
+use Rattle.record.proofs.Conds.{conds}
 use Rattle.list.specs.Parts.{goalOf}
 use borrow.Author.Needs.{needs}
 use Rattle.list.proofs.search.search_ends.Statement.{statement}
