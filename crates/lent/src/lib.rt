@@ -11,6 +11,7 @@ ghost use Rattle.list.specs.Acting.{left, actOn};
 ghost use Rattle.lent.specs.Lent.{actedOf, leaves, actIn};
 ghost use Rattle.lent.specs.Fresh.{over, freshTables, tablesLeft, freshList, listLeft};
 use record::Event;
+use record::Node;
 use record::Outcome;
 use record::Record;
 use words::Sizes;
@@ -127,8 +128,9 @@ fn fresh_links(links: &mut [u32], nodes: usize)
     ensures { λ _. ⌜ now (links .exit) ≡ over (freshMemory nodes .links) (now (links .entry)) ⌝ }
 {
     clear(links, nodes);
-    links[0] = 2;
-    links[1] = 2;
+    let tail = words::link_word(Node(1), false);
+    links[0] = tail;
+    links[1] = tail;
 }
 
 // The lent tables made fresh for these sizes, or refused and left as they are.

@@ -1,29 +1,38 @@
 -- What the rows' words and tests say of the nodes that they name. Rests on Parts.
 use mathlib.Core.Path.{_≡_, refl, sym, _∙_}
-use mathlib.Core.Bool.{Bool, true, false, not, _&&_}
+use mathlib.Core.Bool.{Bool, true, false, cond, not, _&&_}
 use mathlib.Core.List.{List}
-use Prim.Native.Nat.{ℕ, _<_, _+_, _*_}
+use Prim.Native.Nat.{ℕ, _<_, _%_}
 use lib.Dec.{ltb, eqb}
+use lib.ListN.{set}
 use native.Mathlib.Omega.{arith}
 use Rattle.record.specs.declared.Node.{Node}
 use Rattle.table.specs.Words.{linkWord}
 use Rattle.words.specs.Lent.{Swapped, swapOf}
 use Rattle.words.specs.declared.Sizes.{Sizes}
+use Rattle.words.proofs.Links.{small-word}
 use Rattle.list.specs.Parts.{swapWhere, Small, Within}
 use borrow.Author.Tests.{ltb-true}
-
--- a link word with its mark, and without
-pub marked-word : (n : Node) (mark : Bool) → mark ≡ true → 2 * n .0 + 1 ≡ linkWord n mark
-marked-word n mark e = rw e
-
-pub unmarked-word : (n : Node) (mark : Bool) → mark ≡ false → 2 * n .0 ≡ linkWord n mark
-unmarked-word n mark e = rw e (omega arith)
 
 -- a swap where the row is accepted, its words known by equations
 pub where-accepted : (accepted : Bool) (words : List ℕ) (n : Node) (e e′ w w′ : ℕ) (x : Swapped) →
     accepted ≡ true → x ≡ swapOf words n e w → e ≡ e′ → w ≡ w′ → x ≡ swapWhere accepted words n e′ w′
 unfolding swapWhere
 where-accepted accepted words n e e′ w w′ x g made h k = made ∙ rw (g, h, k)
+
+-- the same of link words, which fit into 32 bits
+module _ (accepted : Bool) (words : List ℕ) (n from to : Node) (mark : Bool) (small : Small accepted from to) (g : accepted ≡ true) (w : ℕ)
+    (k : w ≡ linkWord to mark % 4294967296) where
+  new-word : w ≡ linkWord to mark
+  new-word = k ∙ small-word to mark (small .to-small g)
+
+  pub links-swapped : (e : ℕ) (x : Swapped) → x ≡ swapOf words n e w → e ≡ linkWord from false % 4294967296 →
+      x ≡ swapWhere accepted words n (linkWord from false) (linkWord to mark)
+  links-swapped e x made h =
+      where-accepted accepted words n e (linkWord from false) w (linkWord to mark) x g made (h ∙ small-word from false (small .from-small g)) new-word
+
+  pub link-written : (after : List ℕ) → after ≡ set words (n .0) w → after ≡ cond accepted (set words (n .0) (linkWord to mark)) words
+  link-written after made = made ∙ rw (g, new-word)
 
 -- ---- the nodes of an accepted row are small
 

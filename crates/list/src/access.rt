@@ -1,5 +1,5 @@
-// Words made of nodes, marks and processes, and the accesses of the rows to the lent words: a write only where the row is accepted. Rests on
-// the crate words.
+// Deleter words made of processes, and the accesses of the rows to the lent words: a write only where the row is accepted. Rests on the crate
+// words.
 ghost use mathlib.Core.Path.{_≡_};
 ghost use mathlib.Core.Bool.{false, cond, not, _&&_};
 ghost use Prim.Native.Nat.{_<_};
@@ -11,17 +11,6 @@ ghost use Rattle.list.specs.Parts.{readOf, swapWhere, Small};
 use record::Node;
 use record::Process;
 use words::Sizes;
-
-// The link word of a target and a mark.
-pub(crate) fn link_word(target: Node, mark: bool) -> u32
-    requires { ⌜ target .0 < 4096 ⌝ }
-    ensures { λ r. ⌜ r ≡ linkWord target mark ⌝ }
-{
-    if mark {
-        return 2 * target.0 + 1;
-    }
-    2 * target.0
-}
 
 // The deleter word of a process.
 fn deleter_word(p: Process) -> u32
@@ -79,8 +68,8 @@ pub(crate) fn swap_link(
     ensures { λ r. ⌜ swapped (now (links .exit)) r ≡ swapWhere accepted (now (links .entry)) n (linkWord from false) (linkWord to mark) ⌝ }
 {
     if accepted {
-        let expected = link_word(from, false);
-        let new = link_word(to, mark);
+        let expected = words::link_word(from, false);
+        let new = words::link_word(to, mark);
         return words::swap(links, n, expected, new);
     }
     false
@@ -92,7 +81,7 @@ pub(crate) fn write_link(links: &mut [u32], accepted: bool, n: Node, to: Node)
     ensures { λ _. ⌜ now (links .exit) ≡ cond accepted (set (now (links .entry)) (n .0) (linkWord to false)) (now (links .entry)) ⌝ }
 {
     if accepted {
-        let new = link_word(to, false);
+        let new = words::link_word(to, false);
         words::write(links, n, new);
     }
 }

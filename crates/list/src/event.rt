@@ -8,7 +8,6 @@ ghost use Rattle.table.specs.Events.{does, statusNeeded};
 ghost use Rattle.list.specs.Acting.{left, leftOf};
 ghost use Rattle.list.specs.Parts.{Within};
 use crate::Acted;
-use crate::access;
 use crate::answers;
 use crate::step;
 use record::Address;
@@ -69,7 +68,7 @@ fn insert(
     if sizes.count == sizes.nodes {
         return answers::refused(sizes, old, 3);
     }
-    let link = access::link_word(Node(1), false);
+    let link = words::link_word(Node(1), false);
     words::write(addresses, taken, address.0);
     words::write(links, taken, link);
     words::write(deleters, taken, 0);

@@ -1,2 +1,3 @@
+pub mod Links
 pub mod Past
 pub mod Unique

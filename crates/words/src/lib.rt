@@ -1,8 +1,9 @@
-// The stated sizes and the words of the lent tables: whether sizes and tables fit, nodes in use, link words read, the order of nodes, the swap.
+// The stated sizes and the words of the lent tables: whether sizes and tables fit, nodes in use, link words made and read, the order of nodes, the swap.
 // A word past the end of a table reads as 0, and writing it changes nothing. Rests on the place table's words.
 ghost use mathlib.Core.Path.{_≡_};
+ghost use Prim.Native.Nat.{_%_};
 ghost use lib.ListN.{getD, set};
-ghost use Rattle.table.specs.Words.{memory, targetOf, isMarked, rank, rankOf};
+ghost use Rattle.table.specs.Words.{memory, linkWord, targetOf, isMarked, rank, rankOf};
 ghost use Rattle.table.specs.Events.{sizesFit, tablesFit};
 ghost use Rattle.words.specs.Lent.{usedBelow, orderOf, swapped, swapOf};
 use record::Address;
@@ -46,6 +47,17 @@ pub fn in_use(n: Node, count: u32) -> bool
     ensures { λ r. ⌜ r ≡ usedBelow count n ⌝ }
 {
     n.0 < count
+}
+
+// The link word of a target and a mark, as far as 32 bits go; those of any list's nodes do.
+pub fn link_word(target: Node, mark: bool) -> u32
+    ensures { λ r. ⌜ r ≡ linkWord target mark % 4294967296 ⌝ }
+{
+    let double = 2 * target.0 as u64;
+    if mark {
+        return ((double + 1) % 4294967296) as u32;
+    }
+    (double % 4294967296) as u32
 }
 
 // The target of a link word.

@@ -1,13 +1,16 @@
 -- Zeros, then the two links: what is laid over the links is a fresh list's.
 use native.Mathlib.Omega.{arith}
 use lib.ListN.{length-set}
-use borrow.Author.Needs.{needs}
 use Rattle.lent.proofs.Freshness.{links-laid}
+use borrow.Author.Needs.{needs}
 use Rattle.lent.proofs.fresh_links.Statement.{statement}
 use Rattle.lent.proofs.fresh_links.Tie as tie
 
 clear-requires : tie.Need-clear-requires
 clear-requires c κs = search needs
+
+link-word-requires : tie.Need-link-word-requires
+link-word-requires c κs = search needs
 
 slice-write-links : tie.Need-slice-write-links
 slice-write-links c = search needs
@@ -19,8 +22,15 @@ same-length : tie.Need-same-length
 same-length c = search needs
 
 returns : tie.Need-returns
-returns c = rw (c .before .before .clear .ensures) (links-laid _ _ (search needs))
+returns c = rw (c .link-word .ensures, c .before .before .before .clear .ensures) (links-laid _ _ (search needs))
 
 pub fresh-links-spec : {M : Type 1} → statement M
 fresh-links-spec =
-    tie.close (tie.spec clear-requires slice-write-links slice-write-links-2 same-length returns)
+    tie.close
+    (tie.spec
+    clear-requires
+    link-word-requires
+    slice-write-links
+    slice-write-links-2
+    same-length
+    returns)

@@ -1,12 +1,12 @@
 -- A write where the row is accepted, and none where it is not.
-use Rattle.record.proofs.Conds.{conds}
+use mathlib.Core.Bool.{false}
+use Rattle.list.proofs.Tested.{link-written}
 use borrow.Author.Needs.{needs}
 use Rattle.list.proofs.access.write_link.Statement.{statement}
 use Rattle.list.proofs.access.write_link.Tie as tie
 
 link-word-requires : tie.Need-link-word-requires
-link-word-requires c κs =
-    c .before .before .pre .to-small (search needs)
+link-word-requires c κs = search needs
 
 write-requires : tie.Need-write-requires
 write-requires c κs = search needs
@@ -16,7 +16,7 @@ same-length c = search needs
 
 returns : tie.Need-returns
 returns c =
-    rw (c .before .before .write .ensures, c .before .before .before .before .link-word .ensures) (search (needs, conds))
+    link-written _ (c .before .before .before .before .before .before .before .args .links .now) (c .before .before .before .before .before .before .before .args .n) _ _ false (c .before .before .before .before .before .before .before .pre) (c .before .before .before .before .before .if1 .taken) _ (c .before .before .before .before .link-word .ensures) _ (c .before .before .write .ensures)
 
 returns-2 : tie.Need-returns-2
 returns-2 c = search needs
