@@ -113,6 +113,10 @@ pub acting-piece : (file : List ℕ) (w : World) → w .run .phase ≡ Acting �
 unfolding nextPiece
 acting-piece file w e = rw e
 
+-- a run that acts is the run of its parts
+pub acting-run : (run : Run) → run .phase ≡ Acting → runOf Acting (run .cursor) (run .sizes) (run .number) (run .row) ≡ run
+acting-run run h = ap (λ (phase : Phase). runOf phase (run .cursor) (run .sizes) (run .number) (run .row)) (sym h)
+
 pub got-piece : (file : List ℕ) (w : World) (e : Event) (next : Cursor) → eventAt file (w .run .cursor) ≡ read.Got e next
     → eventNext file w ≡ piece (line (w .run .number) (event (tableOf w) e .outcome)) (wentOn w next (event (tableOf w) e .after))
 unfolding eventNext

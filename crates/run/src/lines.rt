@@ -8,10 +8,13 @@ use record::Event;
 use record::Node;
 use record::Outcome;
 use record::Process;
+use record::Record;
+use schedule::Cursor;
 use schedule::EventRead;
 use schedule::read_event;
 use text::put_keys;
 use text::put_line;
+use words::Sizes;
 ghost use mathlib.Core.Path.{_≡_};
 ghost use Prim.Native.Nat.{_<_, _≤_, _-_};
 ghost use lib.ListN.{length};
@@ -19,7 +22,7 @@ ghost use Rattle.record.specs.Event.{processOf};
 ghost use Rattle.text.specs.Put.{put, puts};
 ghost use Rattle.run.specs.declared.Phase.the-variants.{Acting};
 ghost use Rattle.run.specs.Filling.{Stop, fillFrom};
-ghost use Rattle.run.specs.Pieces.{World, world, nextNumber, nextPiece, fills};
+ghost use Rattle.run.specs.Pieces.{World, world, runOf, nextNumber, nextPiece, fills};
 ghost use Rattle.run.specs.Parts.{Reaches, Ready, slotOf, stoppedText, lastText};
 
 // The place of a process's record in the row.
@@ -75,6 +78,27 @@ fn put_last(part: &mut [u8], number: u32, read: EventRead) -> usize
     }
 }
 
+// So many bytes filled, and the run of these parts to go on with.
+fn filled_to(
+    count: usize,
+    phase: Phase,
+    cursor: Cursor,
+    sizes: Sizes,
+    number: u32,
+    row: [Record; 64],
+) -> Filled
+    ensures { λ r. ⌜ r ≡ record { count = count; run = runOf phase cursor sizes number row } ⌝ }
+{
+    let run = Run {
+        phase,
+        cursor,
+        sizes,
+        number,
+        row,
+    };
+    Filled { count, run }
+}
+
 // Lines, until the block has no room for one more or the events are over.
 pub(crate) fn fill_lines(
     file: &[u8],
@@ -89,38 +113,29 @@ pub(crate) fn fill_lines(
     ensures { λ r. ⌜ r .count ≤ length (now (block .exit)) ⌝ }
     ensures { λ r. ⌜ Ready (r .run .phase) (length (now (block .exit)) - r .count) ⌝ }
 {
-    let mut state = run;
+    let mut row = run.row;
+    let mut cursor = run.cursor;
+    let mut sizes = run.sizes;
+    let mut number = run.number;
     let mut at: usize = 0;
     loop {
         if block.len() - at < 64 {
-            return Filled {
-                count: at,
-                run: state,
-            };
+            return filled_to(at, Phase::Acting, cursor, sizes, number, row);
         }
-        let cursor = state.cursor;
-        let number = state.number;
         let read = read_event(file, cursor);
         let EventRead::Got(event, next) = read else {
             let m = put_last(&mut block[at..], number, read);
-            let walking = state.in_phase(Phase::Walking(Node(0), 4294967297));
-            return Filled {
-                count: at + m,
-                run: walking,
-            };
+            let walking = Phase::Walking(Node(0), 4294967297);
+            return filled_to(at + m, walking, cursor, sizes, number, row);
         };
         let p = slot_for(event);
-        let record = state.row[p];
-        let acted = act(addresses, links, deleters, state.sizes, record, event);
+        let acted = act(addresses, links, deleters, sizes, row[p], event);
         let advanced = acted.advanced;
+        row[p] = advanced;
+        cursor = next;
+        sizes = acted.sizes;
         let outcome = acted.outcome;
-        let sizes = acted.sizes;
-        state.row[p] = advanced;
-        state.cursor = next;
-        state.sizes = sizes;
-        let following = number_after(number);
-        state.number = following;
-        let k = put_line(&mut block[at..], number, outcome);
-        at = at + k;
+        at = at + put_line(&mut block[at..], number, outcome);
+        number = number_after(number);
     }
 }
