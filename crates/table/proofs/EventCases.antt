@@ -1,10 +1,11 @@
 -- What an event does, by cases; refused events change nothing. Rests on Events and KnownWrites.
-use Rattle.table.proofs.Common.{_≡_, refl, ap, _≢_, true, _&&_, ℕ, _≤_, _<_, arith, leb, length, set, set-getD, getD-set-same, getD-set-other}
-use Rattle.table.proofs.Common.{leb-true, process, noNode, Idle, Running, Down, Inserts, Deletes, Finds, freshRecord, requested, wentDown}
+use Rattle.table.proofs.Common.{_≡_, refl, _≢_, true, _&&_, ℕ, _≤_, _<_, arith, leb, length, set, getD-set-same, getD-set-other}
+use Rattle.table.proofs.Common.{ltb-true, eqb-true, leb-true, process, noNode, Idle, Running, Down, Inserts, Deletes, Finds, freshRecord, requested, wentDown}
 use Rattle.table.proofs.Common.{restarted, processOf, Process, Address, Record, Event, Insert, Delete, Find, Step, Stop, Restart, Outcome}
 use Rattle.table.proofs.Common.{Refused, Accepted, Memory, written, nextNode, givenOut, Place, placeOf, row, turnIn, inRange, acted, stepOf}
-use Rattle.table.proofs.Common.{does, statusNeeded, sizesFit, tablesFit, act, State, stateOf, recordIn, Leaves, stored, event}
-use Rattle.table.proofs.Tests.{if, if-eq, if-lt, if-le, and-left, and-right}
+use Rattle.table.proofs.Common.{does, statusNeeded, sizesFit, tablesFit, State, stateOf, recordIn, Leaves, stored, event}
+use Rattle.table.proofs.Tests.{if, if-eq, and-left, and-right}
+use Rattle.table.proofs.Meets.{act-judged, refused-stored, event-meets}
 use Rattle.table.proofs.Numbered.{nextIn}
 use Rattle.table.proofs.KnownWrites.{goesAt, writesAt, saysAt}
 
@@ -52,12 +53,8 @@ pub data Happens (σ : State) : Event → Leaves → Type 0 where
   restarts : {p : Process} → Able σ (p .0) Down → Happens σ (Restart p) (leaves (stateWith σ (p .0) (σ .memory) (restarted (recordIn σ p))) Accepted)
 
 module _ (σ : State) where
-  refused-stored : (p : Process) (k : ℕ) → stored σ p (acted (σ .memory) (recordIn σ p) (Refused k)) ≡ leaves σ (Refused k)
-  unfolding stored recordIn
-  refused-stored p k = ap (λ row. leaves (stateOf (σ .nodes) (σ .processes) (σ .memory) row) (Refused k)) (set-getD (σ .row) (p .0) freshRecord)
-
   refuses-stored : (e : Event) (p : Process) (k : ℕ) → Happens σ e (stored σ p (acted (σ .memory) (recordIn σ p) (Refused k)))
-  refuses-stored e p k = rw (refused-stored p k) (refuses k)
+  refuses-stored e p k = rw (refused-stored σ p k) (refuses k)
 
   -- an event of a process that is there, with tables that fit
   module _ (fit : tablesFit (σ .nodes) (σ .processes) (σ .memory) ≡ true) where
@@ -85,13 +82,14 @@ module _ (σ : State) where
     does-happens (Restart p) b = restarts b
 
   pub happens : (e : Event) → Happens σ e (event σ e)
-  unfolding event act
-  happens e = if-le (Happens σ e) (σ .processes) (length (σ .row))
-      (λ r. if (λ d. Happens σ e (stored σ (processOf e) d)) (tablesFit (σ .nodes) (σ .processes) (σ .memory))
-      (λ f. if-lt (λ d. Happens σ e (stored σ (processOf e) d)) (processOf e .0) (σ .processes)
-      (λ h. if-eq (λ d. Happens σ e (stored σ (processOf e) d)) (recordIn σ (processOf e) .kept .status) (statusNeeded e)
-      (λ q. does-happens f e (record { there = h; in-row = omega arith; has = q }))
-      (λ q. refuses-stored e (processOf e) 2))
-      (λ h. refuses-stored e (processOf e) 1))
-      (λ f. refuses-stored e (processOf e) 7))
-      (λ r. refuses 7)
+  happens e = event-meets (Happens σ e) σ e
+      (λ row. act-judged (λ d. Happens σ e (stored σ p d)) (σ .memory) (recordIn σ p) (σ .nodes) (σ .processes) e
+      (λ unfit. refuses-stored e p 7) (λ fit beyond. refuses-stored e p 1) (λ fit there other. refuses-stored e p 2)
+      (λ fit there ready.
+      let h = ltb-true (p .0) (σ .processes) there in
+      let l = leb-true (σ .processes) (length (σ .row)) row in
+      does-happens fit e (record { there = h; in-row = omega arith; has = eqb-true (recordIn σ p .kept .status) (statusNeeded e) ready })))
+      (refuses 7)
+    where
+      p : Process
+      p = processOf e

@@ -15,7 +15,7 @@ use Rattle.record.specs.declared.Node.{Node}
 use Rattle.record.specs.declared.Record.{Record}
 use Rattle.record.specs.declared.Event.{Event}
 use Rattle.record.specs.declared.Outcome.{Outcome}
-use Rattle.table.specs.Words.{Memory, addressAt, linkAt, deleterAt, isMarked, targetOf, inUse, aboveAll, rank, freshMemory}
+use Rattle.table.specs.Words.{Memory, addressAt, linkAt, deleterAt, isMarked, inUse, aboveAll, rank, freshMemory}
 use Rattle.table.specs.Chain.{Reach, here, next, OnChain, Held, follows, goesOn, walk, chain}
 use Rattle.table.specs.Events.{State, recordIn, sizesFit, tablesFit, fresh, event, runs, outcomes}
 use Rattle.table.specs.History.{Set}

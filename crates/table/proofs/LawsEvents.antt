@@ -1,12 +1,11 @@
 -- Laws of events: what a refusal leaves, whose record changes, what becomes of the count and of addresses. Rests on Meets.
-use mathlib.Core.Path.{_≡_, refl, sym, _∙_, ap}
+use mathlib.Core.Path.{_≡_, refl, _∙_, ap}
 use mathlib.Core.Logic.{_≢_}
-use mathlib.Core.Bool.{Bool, true, false}
-use Prim.Native.Nat.{ℕ, _+_, _≤_, _<_}
+use mathlib.Core.Bool.{true}
+use Prim.Native.Nat.{ℕ, _+_, _<_}
 use native.Mathlib.Omega.{arith}
-use lib.Dec.{ltb}
-use lib.ListN.{getD, set}
-use lib.Seq.{set-getD, getD-set-other}
+use lib.ListN.{getD}
+use lib.Seq.{getD-set-other}
 use borrow.Author.Tests.{ltb-true}
 use Rattle.record.specs.Record.{freshRecord}
 use Rattle.record.specs.Event.{processOf}
@@ -20,8 +19,8 @@ use Rattle.record.specs.declared.Outcome.the-variants.{Refused, Accepted, Answe
 use Rattle.table.specs.Words.{Memory, addressAt, inUse, givenOut, Write, nothing, linkIs, deleterIs, written}
 use Rattle.table.specs.Places.{Row, readLink, writeLink, swapLink, readDeleter, swapDeleter, writeNode, ownRecord, handOut, row, placeOf}
 use Rattle.table.specs.Steps.{accessOf, turnIn}
-use Rattle.table.specs.Events.{Acted, acted, stepOf, does, act, State, stateOf, recordIn, Leaves, stored, event}
-use Rattle.table.proofs.Meets.{step-meets, insert-meets, act-meets, event-meets}
+use Rattle.table.specs.Events.{Acted, acted, does, act, State, recordIn, Leaves, stored, event}
+use Rattle.table.proofs.Meets.{step-meets, insert-meets, act-meets, refused-stored, event-meets}
 
 -- ---- "nothing changed"
 
@@ -67,13 +66,13 @@ refused-act-changes-nothing nodes processes m r e =
     act-meets (Unchanged m r) m r nodes processes e (refused-is m r) (λ fit there. does-refused nodes m r e)
 
 pub refused-changes-nothing : (σ : State) (e : Event) (n : ℕ) → event σ e .outcome ≡ Refused n → event σ e .after ≡ σ
-unfolding stored recordIn
+unfolding stored
 refused-changes-nothing σ e =
     event-meets (λ l. (n : ℕ) → l .outcome ≡ Refused n → l .after ≡ σ) σ e
     (λ long n h.
-    let d = refused-act-changes-nothing (σ .nodes) (σ .processes) (σ .memory) (recordIn σ (processOf e)) e n h in
-    ap (λ x. stateOf (σ .nodes) (σ .processes) (x .memory) (set (σ .row) (processOf e .0) (x .advanced))) d
-    ∙ ap (λ w. stateOf (σ .nodes) (σ .processes) (σ .memory) w) (set-getD (σ .row) (processOf e .0) freshRecord))
+    ap (λ x. stored σ (processOf e) x .after)
+    (refused-act-changes-nothing (σ .nodes) (σ .processes) (σ .memory) (recordIn σ (processOf e)) e n h)
+    ∙ ap (λ (l : Leaves). l .after) (refused-stored σ (processOf e) n))
     (λ n h. refl)
 
 -- ---- "other records are untouched"

@@ -3,30 +3,29 @@
 use mathlib.Core.Path.{_≡_, refl, sym, _∙_, ap, subst}
 use mathlib.Core.Logic.{_≢_}
 use mathlib.Core.Bool.{Bool, true, false, cond, not, _&&_, true≢false, false≢true}
-use mathlib.Core.List.{List, [], _∷_, _++_}
-use Prim.Native.Nat.{ℕ, _+_, _≤_, _<_, _/_, _%_}
+use mathlib.Core.List.{List, _++_}
+use Prim.Native.Nat.{ℕ, _+_, _≤_, _<_, _/_}
 use native.Mathlib.Omega.{arith}
 use lib.Dec.{leb, ltb, eqb}
-use lib.ListN.{length, getD, set, length-set, length-append, List·getD-append}
-use lib.Seq.{set-append-left, set-getD}
-use borrow.Author.Tests.{ltb-true, ltb-false, leb-true, le-leb, lt-ltb, eqb-false, le-ltb}
+use lib.ListN.{length, getD, length-set, length-append, List·getD-append}
+use lib.Seq.{set-append-left}
+use borrow.Author.Tests.{ltb-true, ltb-false, leb-true, le-leb, eqb-false, le-ltb}
 use Rattle.record.specs.Record.{freshRecord, requested, Inserts}
-use Rattle.record.specs.Event.{processOf}
+use Rattle.record.specs.Event.{processOf, refusalIn}
 use Rattle.record.specs.declared.Node.{Node}
 use Rattle.record.specs.declared.Process.{Process}
 use Rattle.record.specs.declared.Address.{Address}
 use Rattle.record.specs.declared.Record.{Record}
 use Rattle.record.specs.declared.Event.{Event}
 use Rattle.record.specs.declared.Event.the-variants.{Insert, Delete, Find, Step, Stop, Restart}
-use Rattle.record.specs.declared.Outcome.{Outcome}
-use Rattle.record.specs.declared.Outcome.the-variants.{Refused, Accepted, Answered}
+use Rattle.record.specs.declared.Outcome.the-variants.{Refused, Accepted}
 use Rattle.table.specs.Words.{Memory, memory, givenOut, nextNode, linkAt, deleterAt, inUse, rank, Write, nothing, linkIs, deleterIs, written, noDeleter, targetOf}
-use Rattle.table.specs.Places.{Field, head, pred, curr, succ, own, nodeOf, Link, linkOf, Next, goes, usesOwn, searchEnds, row, Place, placeOf}
+use Rattle.table.specs.Places.{Field, head, pred, curr, succ, own, nodeOf, linkOf, goes, searchEnds, row, Place, placeOf}
 use Rattle.table.specs.Places.{Row, readLink, writeLink, swapLink, readDeleter, swapDeleter, writeNode, ownRecord, handOut}
 use Rattle.table.specs.Places.{p0, p1, p2, p3, p4, p5, p6, p7, p8, p9, p10, p11, p12, p13, p14, p15, p16, p17, p18, p19, off}
-use Rattle.table.specs.Steps.{Meets, link, deleter, noWord, wordMet, Access, accessOf, inRange, usable, allUsable, Turn, turn, turnIn}
-use Rattle.table.specs.Events.{Acted, acted, refused, stepOf, does, statusNeeded, sizesFit, tablesFit, act, State, stateOf, recordIn, Leaves, stored, event}
-use Rattle.table.proofs.Meets.{step-meets, insert-meets, act-meets, event-meets}
+use Rattle.table.specs.Steps.{Meets, link, deleter, wordMet, accessOf, inRange, usable, allUsable, Turn, turn, turnIn}
+use Rattle.table.specs.Events.{Acted, acted, refused, stepOf, does, sizesFit, tablesFit, act, State, stateOf, recordIn, Leaves, stored, event}
+use Rattle.table.proofs.Meets.{step-meets, insert-meets, act-judged, act-meets, refused-stored, event-meets}
 use Rattle.table.proofs.Tests.{if, and-left, and-right}
 
 -- ---- two memories that agree on the nodes in use
@@ -347,26 +346,13 @@ module _ (a l d : List ℕ) where
             && leb nodes (length (m .deleters))
 
     act-longer : (r : Record) (e : Event) → act nodes processes (longer m a l d) r e ≡ more (act nodes processes m r e)
-    unfolding act
-    act-longer r e = go (tablesFit nodes processes m) refl
-      where
-        m⁺ : Memory
-        m⁺ = longer m a l d
-
-        inner : Memory → Acted
-        inner k =
-            cond (ltb (processOf e .0) processes) (cond (eqb (r .kept .status) (statusNeeded e)) (does nodes k r e) (refused k r 2)) (refused k r 1)
-
-        within : Covers m nodes → inner m⁺ ≡ more (inner m)
-        within covers =
-            cond-map more (ltb (processOf e .0) processes)
-            (cond-map more (eqb (r .kept .status) (statusNeeded e)) (does-longer m nodes covers a l d r e) refl)
-            refl
-
-        go : (b : Bool) → tablesFit nodes processes m ≡ b
-            → cond (tablesFit nodes processes m⁺) (inner m⁺) (refused m⁺ r 7) ≡ more (cond (tablesFit nodes processes m) (inner m) (refused m r 7))
-        go true e = rw (fit-longer, e) (within (fit-covers e))
-        go false e = rw (fit-longer, e)
+    unfolding act refusalIn
+    act-longer r e =
+        act-judged (λ x. act nodes processes (longer m a l d) r e ≡ more x) m r nodes processes e
+        (λ unfit. rw (fit-longer, unfit))
+        (λ fit beyond. rw (fit-longer, fit, beyond))
+        (λ fit there other. rw (fit-longer, fit, there, other))
+        (λ fit there ready. rw (fit-longer, fit, there, ready) (does-longer m nodes (fit-covers fit) a l d r e))
 
   -- the same state with more words and records after its tables
   abbrev pub longerState : List Record → State → State
@@ -384,18 +370,23 @@ event-on-row σ e h = rw (le-leb (σ .processes) (length (σ .row)) h)
 -- a process number past the count: nothing changes, whatever record stands there
 event-past-count : (σ : State) (e : Event) → σ .processes ≤ length (σ .row) → σ .processes ≤ processOf e .0
     → event σ e ≡ record { after = σ; outcome = cond (tablesFit (σ .nodes) (σ .processes) (σ .memory)) (Refused 1) (Refused 7) }
-unfolding act stored recordIn
 event-past-count σ e h past =
     event-on-row σ e h
-    ∙ rw (le-ltb (processOf e .0) (σ .processes) past)
-    (go (tablesFit (σ .nodes) (σ .processes) (σ .memory)))
+    ∙ act-judged (λ x. stored σ p x ≡ record { after = σ; outcome = cond fits (Refused 1) (Refused 7) })
+    (σ .memory) (recordIn σ p) (σ .nodes) (σ .processes) e
+    (λ unfit. rw unfit (refused-stored σ p 7))
+    (λ fit beyond. rw fit (refused-stored σ p 1))
+    (λ fit there other. absurd (not-there there))
+    (λ fit there ready. absurd (not-there there))
   where
-    r : Record
-    r = getD (σ .row) (processOf e .0) freshRecord
+    p : Process
+    p = processOf e
 
-    go : (b : Bool) → stored σ (processOf e) (cond b (refused (σ .memory) r 1) (refused (σ .memory) r 7)) ≡ record { after = σ; outcome = cond b (Refused 1) (Refused 7) }
-    go true = rw (set-getD (σ .row) (processOf e .0) freshRecord)
-    go false = rw (set-getD (σ .row) (processOf e .0) freshRecord)
+    fits : Bool
+    fits = tablesFit (σ .nodes) (σ .processes) (σ .memory)
+
+    not-there : ltb (p .0) (σ .processes) ≡ true → ⊥
+    not-there there = true≢false (sym there ∙ le-ltb (p .0) (σ .processes) past)
 
 module _ (a l d : List ℕ) (rs : List Record) (σ : State) (holds : Holds σ) (e : Event) where
   σ⁺ : State

@@ -1,11 +1,12 @@
 -- What every outcome of an event meets, if each of its branches does: one law for each definition that branches. Rests on Tests.
 use mathlib.Core.Path.{_≡_, refl}
-use mathlib.Core.Bool.{true}
+use mathlib.Core.Bool.{Bool, true, false, cond}
 use Prim.Native.Nat.{ℕ}
 use lib.Dec.{leb, ltb, eqb}
 use lib.ListN.{length}
-use Rattle.record.specs.Record.{requested, Inserts}
-use Rattle.record.specs.Event.{processOf}
+use lib.Seq.{set-getD}
+use Rattle.record.specs.Record.{freshRecord, requested, Inserts}
+use Rattle.record.specs.Event.{processOf, refusalIn}
 use Rattle.record.specs.declared.Process.{Process}
 use Rattle.record.specs.declared.Address.{Address}
 use Rattle.record.specs.declared.Record.{Record}
@@ -29,15 +30,40 @@ module _ (P : Acted → Type 0) (m : Memory) (r : Record) where
   unfolding does
   insert-meets nodes p a refusal done = if P (eqb (m .count) nodes) (λ full. refusal) (λ room. done)
 
-  pub act-meets : (nodes processes : ℕ) (e : Event) → ((n : ℕ) → P (acted m r (Refused n)))
-      → (tablesFit nodes processes m ≡ true → ltb (processOf e .0) processes ≡ true → P (does nodes m r e)) → P (act nodes processes m r e)
-  unfolding act
-  act-meets nodes processes e refusal done =
-      if P (tablesFit nodes processes m)
-      (λ fit. if P (ltb (processOf e .0) processes)
-      (λ there. if P (eqb (r .kept .status) (statusNeeded e)) (λ status. done fit there) (λ other. refusal 2))
-      (λ beyond. refusal 1))
-      (λ unfit. refusal 7)
+  -- 7, 1, 2 in this order, or what is done; each with what was found before it
+  judged-meets : (fit there ready : Bool) (d : Acted) → (fit ≡ false → P (refused m r 7)) → (fit ≡ true → there ≡ false → P (refused m r 1))
+      → (fit ≡ true → there ≡ true → ready ≡ false → P (refused m r 2)) → (fit ≡ true → there ≡ true → ready ≡ true → P d)
+      → P (cond (eqb (refusalIn fit there ready) 0) d (refused m r (refusalIn fit there ready)))
+  unfolding refusalIn
+  judged-meets true true true d unfit beyond other done = done refl refl refl
+  judged-meets true true false d unfit beyond other done = other refl refl refl
+  judged-meets true false ready d unfit beyond other done = beyond refl refl
+  judged-meets false there ready d unfit beyond other done = unfit refl
+
+  module _ (nodes processes : ℕ) (e : Event) where
+    abbrev fit : Bool
+    fit = tablesFit nodes processes m
+
+    abbrev there : Bool
+    there = ltb (processOf e .0) processes
+
+    abbrev ready : Bool
+    ready = eqb (r .kept .status) (statusNeeded e)
+
+    pub act-judged : (fit ≡ false → P (refused m r 7)) → (fit ≡ true → there ≡ false → P (refused m r 1))
+        → (fit ≡ true → there ≡ true → ready ≡ false → P (refused m r 2))
+        → (fit ≡ true → there ≡ true → ready ≡ true → P (does nodes m r e)) → P (act nodes processes m r e)
+    unfolding act
+    act-judged = judged-meets fit there ready (does nodes m r e)
+
+    pub act-meets : ((n : ℕ) → P (acted m r (Refused n))) → (fit ≡ true → there ≡ true → P (does nodes m r e)) → P (act nodes processes m r e)
+    act-meets refusal done = act-judged (λ f. refusal 7) (λ f t. refusal 1) (λ f t s. refusal 2) (λ f t s. done f t)
+
+-- a refusal leaves every record as it was
+pub refused-stored : (σ : State) (p : Process) (n : ℕ)
+    → stored σ p (acted (σ .memory) (recordIn σ p) (Refused n)) ≡ record { after = σ; outcome = Refused n }
+unfolding stored recordIn
+refused-stored σ p n = rw (set-getD (σ .row) (p .0) freshRecord)
 
 pub event-meets : (P : Leaves → Type 0) (σ : State) (e : Event)
     → (leb (σ .processes) (length (σ .row)) ≡ true

@@ -1,10 +1,9 @@
 -- In a run from a quiet state sizes and table lengths never change, and no event is refused with 7. Rests on LawsSizes and RunInvariant.
-use Rattle.table.proofs.Common.{_≡_, refl, sym, _∙_, ap, _≢_, _⊎_, inl, inr, true, ℕ, zero, suc, _≤_, arith, ltb, eqb, length, le-leb}
+use Rattle.table.proofs.Common.{_≡_, refl, sym, _∙_, ap, _≢_, _⊎_, inl, inr, true, true≢false, ℕ, zero, suc, _≤_, arith, length, le-leb}
 use Rattle.table.proofs.Common.{processOf, Record, Event, Insert, Delete, Find, Step, Stop, Restart, Refused, Accepted, Answered, Memory}
-use Rattle.table.proofs.Common.{Place, p19, placeOf, row, turnIn, Acted, does, statusNeeded, tablesFit, act, State, recordIn, stored, event}
+use Rattle.table.proofs.Common.{Place, p19, placeOf, row, turnIn, Acted, does, tablesFit, State, recordIn, stored, event}
 use Rattle.table.proofs.Common.{at, out}
-use Rattle.table.proofs.Tests.{if}
-use Rattle.table.proofs.Meets.{step-meets, insert-meets}
+use Rattle.table.proofs.Meets.{step-meets, insert-meets, act-judged}
 use Rattle.table.proofs.LawsSizes.{SizesStay, sizes-stay}
 use Rattle.table.proofs.KnownWrites.{goesAt, saysAt}
 use Rattle.table.proofs.GoingOn.{GoesOn, goes-on, goes-19}
@@ -48,13 +47,13 @@ does-not-7 nodes m R (Restart p) = accepted-not-refused 7
 -- an event with tables that fit
 event-not-7 : (σ : State) (e : Event) → σ .processes ≤ length (σ .row) → tablesFit (σ .nodes) (σ .processes) (σ .memory) ≡ true
     → event σ e .outcome ≢ Refused 7
-unfolding event act stored
-event-not-7 σ e row fit = rw (le-leb (σ .processes) (length (σ .row)) row, fit)
-    (if Not7 (ltb (processOf e .0) (σ .processes))
-    (λ there. if Not7 (eqb (recordIn σ (processOf e) .kept .status) (statusNeeded e))
-    (λ status. does-not-7 (σ .nodes) (σ .memory) (recordIn σ (processOf e)) e)
-    (λ other q. absurd (omega (arith, refused-same 2 7 q))))
-    (λ beyond q. absurd (omega (arith, refused-same 1 7 q))))
+unfolding event stored
+event-not-7 σ e row fit = rw (le-leb (σ .processes) (length (σ .row)) row)
+    (act-judged Not7 (σ .memory) (recordIn σ (processOf e)) (σ .nodes) (σ .processes) e
+    (λ unfit. absurd (true≢false (sym fit ∙ unfit)))
+    (λ f beyond q. absurd (omega (arith, refused-same 1 7 q)))
+    (λ f there other q. absurd (omega (arith, refused-same 2 7 q)))
+    (λ f there ready. does-not-7 (σ .nodes) (σ .memory) (recordIn σ (processOf e)) e))
 
 -- ---- a run
 

@@ -1,20 +1,19 @@
 -- 01's events and the refusals of an event in their order, on one record and on a row of records; fresh tables; runs. Rests on Steps.
-use mathlib.Core.Bool.{Bool, true, false, cond, not, _&&_, _||_}
+use mathlib.Core.Bool.{Bool, true, cond, not, _&&_}
 use mathlib.Core.List.{List, [], _∷_}
 use mathlib.Core.Option.{none}
 use Prim.Native.Nat.{ℕ, _+_}
 use lib.Dec.{leb, ltb, eqb}
 use lib.ListN.{length, getD, set, replicate}
 use Rattle.record.specs.Record.{freshRecord, requested, wentDown, restarted, noNode, Idle, Running, Down, Inserts, Deletes, Finds}
-use Rattle.record.specs.Event.{processOf, outcomeOf, accepted}
-use Rattle.record.specs.declared.Node.{Node}
+use Rattle.record.specs.Event.{processOf, outcomeOf, accepted, refusalIn}
 use Rattle.record.specs.declared.Process.{Process}
 use Rattle.record.specs.declared.Record.{Record}
 use Rattle.record.specs.declared.Event.{Event}
 use Rattle.record.specs.declared.Event.the-variants.{Insert, Delete, Find, Step, Stop, Restart}
 use Rattle.record.specs.declared.Outcome.{Outcome}
 use Rattle.table.specs.Words.{Memory, nextNode, givenOut, written, freshMemory}
-use Rattle.table.specs.Steps.{Turn, turnIn}
+use Rattle.table.specs.Steps.{turnIn}
 
 -- ---- one event on one record
 
@@ -70,14 +69,11 @@ tablesFit nodes processes m =
     && leb 2 (m .count)
     && leb (m .count) nodes
 
--- "Order for an event: 7, 1, 2, 3, 8"
+-- "Order for an event: 7, 1, 2, 3, 8": the first of 7, 1 and 2, or what the event does, 3 and 8 among it
 unfoldable pub act : (nodes processes : ℕ) → Memory → Record → Event → Acted
 act nodes processes m r e =
-    cond (tablesFit nodes processes m)
-    (cond (ltb (processOf e .0) processes)
-    (cond (eqb (r .kept .status) (statusNeeded e)) (does nodes m r e) (refused m r 2))
-    (refused m r 1))
-    (refused m r 7)
+    let number = refusalIn (tablesFit nodes processes m) (ltb (processOf e .0) processes) (eqb (r .kept .status) (statusNeeded e)) in
+    cond (eqb number 0) (does nodes m r e) (refused m r number)
 
 -- ---- one event on a row of records
 

@@ -1,16 +1,14 @@
 -- 01's place table, row by row: a row is its one access, and what follows from what the access meets. Rests on Words and the record's changes.
-use mathlib.Core.Bool.{Bool, true, false, cond, not, _&&_, _||_}
+use mathlib.Core.Bool.{Bool, true, false, cond, not, _&&_}
 use mathlib.Core.List.{List, [], _∷_}
 use Prim.Native.Nat.{ℕ}
-use lib.Dec.{leb, ltb, eqb}
+use lib.Dec.{eqb}
 use lib.ListN.{getD}
-use Rattle.record.specs.Record.{_▸_, _with_, to, pred≔, curr≔, succ≔, node≔, result≔, status≔, headNode, Idle, Inserts, Deletes, Finds}
+use Rattle.record.specs.Record.{_▸_, _with_, to, pred≔, curr≔, succ≔, node≔, result≔, status≔, headNode, Idle, Inserts, Deletes}
 use Rattle.record.specs.Record.{NoAnswer, False, True, Fail}
 use Rattle.record.specs.declared.Node.{Node}
-use Rattle.record.specs.declared.Process.{Process}
 use Rattle.record.specs.declared.Record.{Record}
-use Rattle.table.specs.Words.{Memory, linkAt, deleterAt, linkWord, targetOf, isMarked, noDeleter, deleterWord, inUse, below, equal}
-use Rattle.table.specs.Words.{Write, nothing, linkIs, deleterIs}
+use Rattle.table.specs.Words.{linkWord, below, equal}
 
 -- ---- the words of the table
 

@@ -1,16 +1,16 @@
 -- One step: what a row of the place table uses, meets, writes and leaves, and 01's refusal 8. Rests on Words and Places.
-use mathlib.Core.Bool.{Bool, true, false, cond, not, _&&_, _||_}
+use mathlib.Core.Bool.{Bool, true, cond, not, _&&_, _||_}
 use mathlib.Core.List.{List, [], _∷_}
 use mathlib.Core.Option.{some}
 use Prim.Native.Nat.{ℕ}
-use lib.Dec.{leb, ltb, eqb}
+use lib.Dec.{leb, eqb}
 use Rattle.record.specs.Record.{Finds, NoAnswer, Fail}
 use Rattle.record.specs.declared.Node.{Node}
 use Rattle.record.specs.declared.Process.{Process}
 use Rattle.record.specs.declared.Record.{Record}
 use Rattle.record.specs.declared.Outcome.{Outcome}
 use Rattle.record.specs.Event.{outcomeOf, accepted}
-use Rattle.table.specs.Words.{Memory, linkAt, deleterAt, targetOf, isMarked, noDeleter, deleterWord, inUse, written}
+use Rattle.table.specs.Words.{Memory, linkAt, deleterAt, targetOf, isMarked, noDeleter, deleterWord, inUse}
 use Rattle.table.specs.Words.{Write, nothing, linkIs, deleterIs}
 use Rattle.table.specs.Places.{Field, head, pred, curr, succ, own, nodeOf, Link, unmarked, marked, linkOf, Next, goes, usesOwn}
 use Rattle.table.specs.Places.{Row, readLink, writeLink, swapLink, readDeleter, swapDeleter, writeNode, ownRecord, handOut, placeOf, row}

@@ -1,8 +1,8 @@
 -- The words of 01, "What is stored" and "Sizes": the three tables and the count, links, deleters, the order of nodes, nodes in use.
 use mathlib.Core.Bool.{Bool, true, false, cond}
-use mathlib.Core.List.{List, [], _∷_, _++_}
+use mathlib.Core.List.{List, _∷_}
 use Prim.Native.Nat.{ℕ, _+_, _-_, _*_, _/_, _%_}
-use lib.Dec.{leb, ltb, eqb}
+use lib.Dec.{ltb, eqb}
 use lib.ListN.{getD, set, replicate}
 use Rattle.record.specs.Record.{node, tailNode}
 use Rattle.record.specs.declared.Node.{Node}
