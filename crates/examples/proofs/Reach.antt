@@ -1,15 +1,15 @@
 -- 01, "How far the promises reach": the machines that demand 3 alone would admit are shut out. A machine that leaves, of any state and event,
 -- what the promises say is none of them, by an example of 01 or a law. Rests on Examples.
-use mathlib.Core.Path.{_≡_, refl, sym, ap, _∙_}
-use mathlib.Core.List.{List, [], _∷_}
+use mathlib.Core.Path.{_≡_, sym, ap, _∙_}
+use mathlib.Core.List.{[], _∷_}
 use Prim.Native.Nat.{ℕ}
 use native.Mathlib.Omega.{arith}
 use lib.ListN.{length}
 use Rattle.record.specs.Record.{process, False, True}
 use Rattle.record.specs.declared.Process.{Process}
+use Rattle.record.specs.Event.{refusalIn}
 use Rattle.record.specs.declared.Event.{Event}
 use Rattle.record.specs.declared.Event.the-variants.{Step}
-use Rattle.record.specs.declared.Outcome.{Outcome}
 use Rattle.record.specs.declared.Outcome.the-variants.{Refused, Accepted, Answered}
 use Rattle.table.specs.Words.{addressAt, linkAt, deleterAt, rank, written, givenOut, freshMemory}
 use Rattle.table.specs.Places.{placeOf, searchEnds, row}
@@ -46,7 +46,7 @@ step = Step (process 0)
 -- "the constant refuser"
 pub no-constant-refuser : (f : Machine) → KeepsPromise f → (refusal : State → Event → ℕ) →
     ((σ : State) (e : Event) → f σ e .outcome ≡ Refused (refusal σ e)) → ⊥
-unfolding fresh freshMemory runs event stored recordIn act tablesFit sizesFit does stepOf turnIn inRange wordMet row searchEnds placeOf written givenOut rank addressAt linkAt deleterAt
+unfolding fresh freshMemory runs event stored recordIn act refusalIn tablesFit sizesFit does stepOf turnIn inRange wordMet row searchEnds placeOf written givenOut rank addressAt linkAt deleterAt
 no-constant-refuser f keeps refusal refuses = never (refusal empty (insert 0 485)) (sym accepts ∙ refuses empty (insert 0 485))
   where
     accepts : f empty (insert 0 485) .outcome ≡ Accepted
@@ -58,7 +58,7 @@ no-constant-refuser f keeps refusal refuses = never (refusal empty (insert 0 485
 -- "the machine with one fixed answer"
 pub no-fixed-answer : (f : Machine) → KeepsPromise f → (v : ℕ) →
     ((σ : State) (e : Event) (w : ℕ) → f σ e .outcome ≡ Answered w → w ≡ v) → ⊥
-unfolding fresh freshMemory runs event stored recordIn act tablesFit sizesFit does stepOf turnIn inRange wordMet row searchEnds placeOf written givenOut rank addressAt linkAt deleterAt
+unfolding fresh freshMemory runs event stored recordIn act refusalIn tablesFit sizesFit does stepOf turnIn inRange wordMet row searchEnds placeOf written givenOut rank addressAt linkAt deleterAt
 no-fixed-answer f keeps v fixed =
     omega (
       arith,
@@ -68,7 +68,7 @@ no-fixed-answer f keeps v fixed =
 
 -- "the step that changes nothing"
 pub no-idle-step : (f : Machine) → KeepsPromise f → ((σ : State) (p : Process) → f σ (Step p) .after ≡ σ) → ⊥
-unfolding fresh freshMemory runs event stored recordIn act tablesFit sizesFit does stepOf turnIn inRange wordMet row searchEnds placeOf written givenOut rank addressAt linkAt deleterAt
+unfolding fresh freshMemory runs event stored recordIn act refusalIn tablesFit sizesFit does stepOf turnIn inRange wordMet row searchEnds placeOf written givenOut rank addressAt linkAt deleterAt
 no-idle-step f keeps idles = omega (arith, place)
   where
     place : _≡_ {A = ℕ} 1 0
@@ -78,7 +78,7 @@ no-idle-step f keeps idles = omega (arith, place)
 
 -- "the one that performs a whole operation at its first step and idles through the rest": a first step of an insert that claims the address
 pub no-insert-at-once : (f : Machine) → KeepsPromise f → chainAddresses (f asked step .after .memory) ≡ 485 ∷ [] → ⊥
-unfolding fresh freshMemory runs event stored recordIn act tablesFit sizesFit does stepOf turnIn inRange wordMet row searchEnds placeOf written givenOut rank addressAt linkAt deleterAt walk chain chainAddresses
+unfolding fresh freshMemory runs event stored recordIn act refusalIn tablesFit sizesFit does stepOf turnIn inRange wordMet row searchEnds placeOf written givenOut rank addressAt linkAt deleterAt walk chain chainAddresses
 no-insert-at-once f keeps claims = omega (arith, none)
   where
     none : _≡_ {A = ℕ} 0 1

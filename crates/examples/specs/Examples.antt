@@ -1,10 +1,11 @@
 -- 01's examples 1 to 10, those marked P: one table under one statement, computed from the definitions that the promises cite.
 use mathlib.Core.Path.{_≡_, refl}
-use mathlib.Core.Bool.{Bool, true, false, cond}
+use mathlib.Core.Bool.{true, false}
 use mathlib.Core.List.{List, [], _∷_, _++_, map}
 use Prim.Native.Nat.{ℕ}
-use lib.ListN.{length, replicate, take, drop}
+use lib.ListN.{replicate}
 use Rattle.record.specs.Record.{process, address, False, True, Fail}
+use Rattle.record.specs.Event.{refusalIn}
 use Rattle.record.specs.declared.Event.{Event}
 use Rattle.record.specs.declared.Event.the-variants.{Insert, Delete, Find, Step, Stop, Restart}
 use Rattle.record.specs.declared.Outcome.{Outcome}
@@ -12,7 +13,7 @@ use Rattle.record.specs.declared.Outcome.the-variants.{Refused, Accepted, Answe
 use Rattle.table.specs.Words.{addressAt, linkAt, deleterAt, rank, written, givenOut, freshMemory}
 use Rattle.table.specs.Places.{placeOf, searchEnds, row}
 use Rattle.table.specs.Steps.{wordMet, inRange, turnIn}
-use Rattle.table.specs.Events.{State, fresh, outcomes, runs, event, stored, recordIn, act, tablesFit, sizesFit, does, stepOf}
+use Rattle.table.specs.Events.{fresh, outcomes, runs, event, stored, recordIn, act, tablesFit, sizesFit, does, stepOf}
 use Rattle.schedule.specs.Numbers.{Read, got, stops, numberBytes, groups, readNumber, moreGroups, _then_}
 
 -- ---- what an example shows
@@ -111,5 +112,5 @@ examples =
 -- ---- the statement
 
 pub examples-hold : map (λ w. shows (w .example)) examples ≡ map (λ w. w .wanted) examples
-unfolding shows numberBytes groups readNumber moreGroups _then_ fresh freshMemory outcomes runs event stored recordIn act tablesFit sizesFit does stepOf turnIn inRange wordMet row searchEnds placeOf written givenOut rank addressAt linkAt deleterAt
+unfolding shows numberBytes groups readNumber moreGroups _then_ fresh freshMemory outcomes runs event stored recordIn act refusalIn tablesFit sizesFit does stepOf turnIn inRange wordMet row searchEnds placeOf written givenOut rank addressAt linkAt deleterAt
 examples-hold = refl

@@ -5,7 +5,7 @@ use mathlib.Core.List.{List}
 use Prim.Native.Nat.{ℕ}
 use lib.Dec.{eqb}
 use lib.ListN.{getD}
-use Rattle.record.specs.Record.{_▸_, _with_, to, pred≔, curr≔, succ≔, Inserts, False, True, Fail}
+use Rattle.record.specs.Record.{_▸_, _with_, to, pred≔, curr≔, succ≔, Inserts, False, Fail}
 use Rattle.record.specs.declared.Node.{Node}
 use Rattle.record.specs.declared.Process.{Process}
 use Rattle.record.specs.declared.Record.{Record}
@@ -20,7 +20,7 @@ use Rattle.list.specs.declared.access.Read.{Read}
 use Rattle.list.specs.declared.Acted.{Acted}
 use Rattle.list.specs.declared.search.Goal.{Goal}
 use Rattle.list.specs.Acting.{left}
-use Rattle.list.specs.Parts.{StandsAt, turnOf, answered, stepped, readOf, goalOf}
+use Rattle.list.specs.Parts.{StandsAt, turnOf, answered, stepped, readOf, EndsAt}
 use Rattle.list.proofs.Turns.{left-unless, read-link-own, read-link, own-record}
 
 -- the record and the use of own that follow from the tests of row 1
@@ -58,22 +58,11 @@ module _ (r : Record) (target : Node) where
       cond (not mark && low) onward found
       ▸ cond mark 2 (cond low 1 (ends .place)) with cond (mark || low) (r .lost .pending) (ends .answer)
 
-  scan-chooses : (mark low recovering at-own inserts same : Bool) →
-      chosen mark low (goalOf recovering at-own inserts same (r .lost .pending)) ≡
-      recordAfter (cond mark (goes (found ▸ to 2)) (cond low (goes (onward ▸ to 1))
-      (cond recovering (usesOwn (cond at-own (found ▸ 18 with True) (found ▸ to 14)))
-      (cond inserts
-      (goes (cond same (found ▸ 18 with False) (found ▸ to 3)))
-      (goes (cond same (found ▸ to 5) (found ▸ 18 with False)))))))
-  unfolding goalOf
-  scan-chooses true low recovering at-own inserts same = refl
-  scan-chooses false true recovering at-own inserts same = refl
-  scan-chooses false false true true inserts same = refl
-  scan-chooses false false true false inserts same = refl
-  scan-chooses false false false at-own true true = refl
-  scan-chooses false false false at-own true false = refl
-  scan-chooses false false false at-own false true = refl
-  scan-chooses false false false at-own false false = refl
+  scan-chooses : (mark low : Bool) (ends : Goal) (x : Next) → (found ▸ ends .place with ends .answer) ≡ recordAfter x →
+      chosen mark low ends ≡ recordAfter (cond mark (goes (found ▸ to 2)) (cond low (goes (onward ▸ to 1)) x))
+  scan-chooses true low ends x h = refl
+  scan-chooses false true ends x h = refl
+  scan-chooses false false ends x h = h
 
 -- where the step does not fit, each field chosen is the one that was there
 scan-left : (r : Record) (fits mark low : Bool) (target : Node) (place answer : ℕ) →
@@ -130,25 +119,25 @@ module _ (addresses links deleters : List ℕ) (sizes : Sizes) (p : Process) (r 
       usable-curr ≡ inUse m (r .lost .curr) →
       read ≡ readOf sizes usable-curr word →
       order ≡ orderOf addresses (r .lost .curr) (r .kept .address) →
-      ends ≡ goalOf (r .lost .recovering) (eqb (r .lost .curr .0) (r .kept .node .0)) (eqb (r .kept .kind) 0) (order .equal) (r .lost .pending) →
+      EndsAt (r .lost .recovering) (eqb (r .lost .curr .0) (r .kept .node .0)) (eqb (r .kept .kind) 0) (order .equal) (r .lost .pending) ends →
       left addresses links deleters
       (turnOf (fitsWith read order) sizes r (chosen r (read .target) (read .mark) (order .below) ends))
       ≡ stepped addresses links deleters sizes p r
-  unfolding row placeOf searchEnds readOf orderOf
+  unfolding row placeOf EndsAt readOf orderOf
   scan at usable-curr read order ends u k o e =
-      rw (e, k, o, u)
+      rw (k, o, u)
       (read-link-own addresses links deleters sizes p r 1 at curr _ _ _ refl
       (ap (λ x. inUse m (r .lost .curr) && inUse m (targetOf word) && x)
       (own-tested (isMarked word) low (r .lost .recovering) (usable (inUse m) r own)
       ∙ rw (own-is _ refl) (own-scans (inUse m) r (isMarked word) low _ _ _)))
-      (scan-chooses r (targetOf word) (isMarked word) low (r .lost .recovering) _ _ _))
+      (scan-chooses r (targetOf word) (isMarked word) low ends _ (e addresses (found r (targetOf word)) refl refl refl (rw o) refl)))
 
   pub scanned : StandsAt 1 r → (usable-curr own-used : Bool) (read : Read) (order : Order) (ends : Goal) (low-place next-place next-answer : ℕ)
       (onto : Node) (place answer : ℕ) (x : Record) (a : Acted) →
       usable-curr ≡ inUse m (r .lost .curr) →
       read ≡ readOf sizes usable-curr word →
       order ≡ orderOf addresses (r .lost .curr) (r .kept .address) →
-      ends ≡ goalOf (r .lost .recovering) (eqb (r .lost .curr .0) (r .kept .node .0)) (eqb (r .kept .kind) 0) (order .equal) (r .lost .pending) →
+      EndsAt (r .lost .recovering) (eqb (r .lost .curr .0) (r .kept .node .0)) (eqb (r .kept .kind) 0) (order .equal) (r .lost .pending) ends →
       low-place ≡ cond (order .below) 1 (ends .place) →
       next-place ≡ cond (read .mark) 2 low-place →
       next-answer ≡ cond (read .mark || order .below) (r .lost .pending) (ends .answer) →

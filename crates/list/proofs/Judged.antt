@@ -1,14 +1,15 @@
 -- An event judged: refusals 7, 1, 2 in this order, then what it does; and what follows of tables that fit. Rests on Events.
 use mathlib.Core.Path.{_≡_, refl, _∙_}
-use mathlib.Core.Bool.{Bool, true, false, cond, _&&_}
+use mathlib.Core.Bool.{Bool, true, false, _&&_}
 use mathlib.Core.List.{List}
-use Prim.Native.Nat.{ℕ, _+_, _<_}
+use mathlib.Core.Option.{none}
+use Prim.Native.Nat.{ℕ, zero, suc, _+_, _<_}
 use native.Mathlib.Omega.{arith}
 use lib.Dec.{leb, ltb, eqb}
 use lib.ListN.{length, set}
 use borrow.Author.Tests.{leb-true, ltb-true, eq-eqb, ne-eqb}
 use Rattle.record.specs.Record.{tailNode, requested, wentDown, restarted, node, noNode, Inserts, Deletes, Finds}
-use Rattle.record.specs.Event.{processOf, refusalIn}
+use Rattle.record.specs.Event.{processOf, outcomeOf, refusalIn}
 use Rattle.record.specs.declared.Process.{Process}
 use Rattle.record.specs.declared.Address.{Address}
 use Rattle.record.specs.declared.Record.{Record}
@@ -16,8 +17,7 @@ use Rattle.record.specs.declared.Event.{Event}
 use Rattle.record.specs.declared.Event.the-variants.{Insert, Delete, Find, Step, Stop, Restart}
 use Rattle.record.specs.declared.Outcome.the-variants.{Refused, Accepted}
 use Rattle.table.specs.Words.{Memory, memory, givenOut, linkWord}
-use Rattle.table.specs.Events.{acted, refused, act, does, tablesFit, sizesFit, statusNeeded}
-use Rattle.table.specs.Events as table
+use Rattle.table.specs.Events.{refused, act, does, tablesFit, sizesFit, statusNeeded}
 use Rattle.words.specs.declared.Sizes.{Sizes}
 use Rattle.list.specs.declared.Acted.{Acted}
 use Rattle.list.specs.Acting.{Left, left, leftOf, actOn, counted}
@@ -33,15 +33,10 @@ none-refuses true true false refusal is e = absurd (omega (arith, is, e))
 none-refuses true false ready refusal is e = absurd (omega (arith, is, e))
 none-refuses false there ready refusal is e = absurd (omega (arith, is, e))
 
--- where one refuses, it is the first
-first-refuses : (fits there ready : Bool) (refusal : ℕ) (m : Memory) (r : Record) (d : table.Acted) →
-    refusal ≡ refusalIn fits there ready → (refusal ≡ 0 → ⊥) →
-    acted m r (Refused refusal) ≡ cond fits (cond there (cond ready d (refused m r 2)) (refused m r 1)) (refused m r 7)
-unfolding refusalIn
-first-refuses true true true refusal m r d is some = absurd (some is)
-first-refuses true true false refusal m r d is some = rw is
-first-refuses true false ready refusal m r d is some = rw is
-first-refuses false there ready refusal m r d is some = rw is
+-- a number other than 0 is a refusal's
+is-refusal : (refusal : ℕ) → (refusal ≡ 0 → ⊥) → outcomeOf refusal none ≡ Refused refusal
+is-refusal zero some = absurd (some refl)
+is-refusal (suc n) some = refl
 
 -- what tables that fit hold
 module _ (addresses links deleters : List ℕ) (sizes : Sizes)
@@ -107,17 +102,15 @@ module _ (addresses links deleters : List ℕ) (sizes : Sizes) (r : Record) (e :
   pub refuses : (refusal ≡ 0 → ⊥) → (a : Acted) → a ≡ answered sizes r (Refused refusal) →
       left addresses links deleters a ≡ actOn addresses links deleters sizes r e
   unfolding actOn act
-  refuses some a made = rw (made, ← first-refuses _ _ _ refusal m r (does (sizes .nodes) m r e) tested some)
+  refuses some a made = rw (made, ← tested, ne-eqb refusal 0 some, is-refusal refusal some)
 
   pub acts : refusal ≡ 0 → (x : Left) → x ≡ leftOf sizes (does (sizes .nodes) m r e) → x ≡ actOn addresses links deleters sizes r e
   unfolding actOn act
-  acts none x made =
-      let tests = none-refuses _ _ _ refusal tested none in
-      made ∙ rw (tests .0, tests .1, tests .2)
+  acts unrefused x made = made ∙ rw (← tested, eq-eqb refusal 0 unrefused)
 
   pub able : refusal ≡ 0 → Within sizes × (processOf e .0 < 64)
-  able none =
-      let tests = none-refuses _ _ _ refusal tested none in
+  able unrefused =
+      let tests = none-refuses _ _ _ refusal tested unrefused in
       (within addresses links deleters sizes (tests .0), few-processes addresses links deleters sizes (tests .0) (processOf e) (tests .1))
 
 -- what each kind does

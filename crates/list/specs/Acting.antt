@@ -3,7 +3,7 @@ use mathlib.Core.List.{List}
 use Prim.Native.Nat.{ℕ}
 use Rattle.record.specs.declared.Record.{Record}
 use Rattle.record.specs.declared.Event.{Event}
-use Rattle.table.specs.Words.{Memory, memory}
+use Rattle.table.specs.Words.{memory}
 use Rattle.table.specs.Events.{act}
 use Rattle.table.specs.Events as table
 use Rattle.words.specs.declared.Sizes.{Sizes}

@@ -4,14 +4,16 @@ use mathlib.Core.Path.{_≡_}
 use mathlib.Core.Bool.{Bool, true, false, cond, _&&_}
 use mathlib.Core.List.{List}
 use Prim.Native.Nat.{ℕ, _<_, _≤_}
-use Rattle.record.specs.Record.{False, True}
+use lib.Dec.{eqb}
+use Rattle.record.specs.Record.{_▸_, _with_, Inserts}
 use Rattle.record.specs.declared.Node.{Node}
 use Rattle.record.specs.declared.Process.{Process}
 use Rattle.record.specs.declared.Record.{Record}
 use Rattle.record.specs.declared.Outcome.{Outcome}
 use Rattle.record.specs.declared.Outcome.the-variants.{Refused, Accepted}
-use Rattle.table.specs.Words.{memory, targetOf, isMarked}
-use Rattle.table.specs.Steps.{inRange}
+use Rattle.table.specs.Words.{memory, targetOf, isMarked, equal}
+use Rattle.table.specs.Places.{searchEnds}
+use Rattle.table.specs.Steps.{inRange, recordAfter}
 use Rattle.table.specs.Events.{stepOf}
 use Rattle.words.specs.Lent.{usedBelow, Swapped, swapped, swapOf}
 use Rattle.words.specs.declared.Sizes.{Sizes}
@@ -55,14 +57,16 @@ answered sizes r outcome = record { advanced = r; sizes = sizes; outcome = outco
 unfoldable pub turnOf : Bool → Sizes → Record → Record → Acted
 turnOf accepted sizes r after = cond accepted (answered sizes after Accepted) (answered sizes r (Refused 8))
 
--- where a search that ends goes, and with which pending answer: "End of search.", its tests by their answers
-abbrev pub goal : (place answer : ℕ) → Goal
-goal place answer = record { place = place; answer = answer }
-
-unfoldable pub goalOf : (recovering at-own inserts same : Bool) (pending : ℕ) → Goal
-goalOf recovering at-own inserts same pending =
-    cond recovering (cond at-own (goal 18 True) (goal 14 pending))
-    (cond inserts (cond same (goal 18 False) (goal 3 pending)) (cond same (goal 5 pending) (goal 18 False)))
+-- where the search of a record ends, as a place and a pending answer: "End of search.", of any record of which its tests tell this
+unfoldable pub EndsAt : (recovering at-own inserts same : Bool) (pending : ℕ) → Goal → Type 0
+EndsAt recovering at-own inserts same pending goal =
+    (addresses : List ℕ) (r : Record) →
+    r .lost .recovering ≡ recovering →
+    eqb (r .lost .curr .0) (r .kept .node .0) ≡ at-own →
+    eqb (r .kept .kind) Inserts ≡ inserts →
+    equal addresses (r .lost .curr) (r .kept .address) ≡ same →
+    r .lost .pending ≡ pending →
+    (r ▸ goal .place with goal .answer) ≡ recordAfter (searchEnds addresses r)
 
 -- what the place table's step leaves, table by table
 unfoldable pub stepped : List ℕ → List ℕ → List ℕ → Sizes → Process → Record → Left

@@ -4,7 +4,7 @@ ghost use mathlib.Core.List.{List};
 ghost use Prim.Native.Nat.{ℕ};
 ghost use Rattle.record.specs.declared.Process as spec;
 ghost use Rattle.list.specs.Acting.{left};
-ghost use Rattle.list.specs.Parts.{StandsAt, Within, stepped, goalOf};
+ghost use Rattle.list.specs.Parts.{StandsAt, Within, stepped, EndsAt};
 use crate::Acted;
 use crate::access;
 use crate::answers;
@@ -20,7 +20,7 @@ pub(crate) struct Goal {
 
 // The end of a search: recovering or not, at own or not, for an insert or not, at the address or not.
 fn search_ends(recovering: bool, at_own: bool, inserts: bool, same: bool, pending: u8) -> Goal
-    ensures { λ r. ⌜ r ≡ goalOf recovering «at_own» inserts same pending ⌝ }
+    ensures { λ r. ⌜ EndsAt recovering «at_own» inserts same pending r ⌝ }
 {
     let found = Goal {
         place: 18,

@@ -1,14 +1,13 @@
 -- What comes next in a run, by what its reader, its list and its walk gave. Rests on Pieces.
 use Prim.Native.Nat.{ℕ, zero, suc, _-_, _<_, _≤_}
 use mathlib.Core.List.{List, [], _∷_}
-use mathlib.Core.Bool.{Bool, true, false, cond, _&&_}
+use mathlib.Core.Bool.{Bool, true, false, cond, _&&_, true≢false}
 use mathlib.Core.Path.{_≡_, refl, ap, sym, _∙_}
 use mathlib.Core.Logic.{_⊎_, ⊎-elim}
 use native.Mathlib.Omega.{arith}
 use borrow.Author.Tests.{lt-leb, leb-true, leb-false, ltb-true, ne-eqb}
 use lib.Dec.{leb, ltb, eqb}
 use lib.ListN.{length, length-append, getD, set}
-use lib.Seq.{set-getD}
 use denote.Enum.Declared.{tagOf}
 use Rattle.record.specs.Record.{freshRecord, process, address}
 use Rattle.record.specs.Event.{processOf}
@@ -19,6 +18,7 @@ use Rattle.record.specs.declared.Outcome.the-variants as outcome
 use Rattle.table.specs.Words.{Memory, memory, linkAt, addressAt, targetOf}
 use Rattle.table.specs.Events.{State, Acted, act, acted, sizesFit, tablesFit, event, stored, recordIn, Leaves}
 use Rattle.table.specs.Chain.{goesOn}
+use Rattle.table.proofs.Meets.{refused-anywhere}
 use Rattle.list.specs.Acting.{Left, actOn}
 use Rattle.schedule.specs.declared.Cursor.{Cursor}
 use Rattle.schedule.specs.declared.EventRead.{EventRead}
@@ -60,32 +60,14 @@ module _ (σ : State) (e : Event) where
   abbrev at : ℕ → Leaves
   at p = stored σ (process p) (acts p)
 
-  -- a refusal leaves everything, at whatever place
-  refused-stays : (p number : ℕ) →
-      stored σ (process p) (acted (σ .memory) (recordIn σ (process p)) (outcome.Refused number)) ≡
-      record { after = σ; outcome = outcome.Refused number }
-  unfolding stored recordIn
-  refused-stays p number = rw (set-getD (σ .row) p freshRecord)
-
-  pub acts-refused : (fit there : Bool) (p : ℕ) → tablesFit (σ .nodes) (σ .processes) (σ .memory) ≡ fit → ltb (processOf e .0) (σ .processes) ≡ there
-      → (fit && there) ≡ false → at p ≡ record { after = σ; outcome = outcome.Refused (cond fit 1 7) }
-  unfolding act
-  acts-refused true true p f t h = absurd (let z : _≡_ {A = ℕ} 0 1 = cc in omega arith)
-  acts-refused true false p f t h = rw (f, t) (refused-stays p 1)
-  acts-refused false there p f t h = rw f (refused-stays p 7)
-
   -- a process that is not there is refused at any place
   anywhere : (p q : ℕ) → 64 ≤ processOf e .0 → at p ≡ at q
-  anywhere p q h = go (tablesFit (σ .nodes) (σ .processes) (σ .memory)) refl (ltb (processOf e .0) (σ .processes)) refl
+  anywhere p q h = refused-anywhere σ (process p) e never ∙ sym (refused-anywhere σ (process q) e never)
     where
-      no-room : (fit there : Bool) → tablesFit (σ .nodes) (σ .processes) (σ .memory) ≡ fit → ltb (processOf e .0) (σ .processes) ≡ there → (fit && there) ≡ false
-      no-room true true f t =
-          sym f ∙ too-many (σ .nodes) (σ .processes) (σ .memory) (omega (arith, ltb-true (processOf e .0) (σ .processes) t))
-      no-room true false f t = refl
-      no-room false there f t = refl
-
-      go : (fit : Bool) → tablesFit (σ .nodes) (σ .processes) (σ .memory) ≡ fit → (there : Bool) → ltb (processOf e .0) (σ .processes) ≡ there → at p ≡ at q
-      go fit f there t = acts-refused fit there p f t (no-room fit there f t) ∙ sym (acts-refused fit there q f t (no-room fit there f t))
+      never : tablesFit (σ .nodes) (σ .processes) (σ .memory) ≡ true → ltb (processOf e .0) (σ .processes) ≡ true → ⊥
+      never fit there =
+          let t = ltb-true (processOf e .0) (σ .processes) there in
+          true≢false (sym fit ∙ too-many (σ .nodes) (σ .processes) (σ .memory) (omega arith))
 
   module _ (row : length (σ .row) ≡ 64) where
     pub event-on-row : event σ e ≡ at (processOf e .0)
@@ -97,7 +79,7 @@ module _ (σ : State) (e : Event) where
         go true h = rw (row, h)
         go false h =
             let f = too-many (σ .nodes) (σ .processes) (σ .memory) (leb-false (σ .processes) 64 h) in
-            rw (row, h) (sym (acts-refused false (ltb (processOf e .0) (σ .processes)) (processOf e .0) f refl refl))
+            rw (row, h) (sym (rw f at (refused-anywhere σ (processOf e) e (λ fit there. true≢false (sym fit ∙ f)))))
 
     pub event-by-slot : (p : ℕ) → p ≡ slotOf (processOf e .0) → event σ e ≡ at p
     unfolding slotOf

@@ -25,7 +25,7 @@ use Rattle.table.specs.Places.{Row, readLink, writeLink, swapLink, readD
 use Rattle.table.specs.Places.{p0, p1, p2, p3, p4, p5, p6, p7, p8, p9, p10, p11, p12, p13, p14, p15, p16, p17, p18, p19, off}
 use Rattle.table.specs.Steps.{Meets, link, deleter, wordMet, accessOf, inRange, usable, allUsable, Turn, turn, turnIn}
 use Rattle.table.specs.Events.{Acted, acted, refused, stepOf, does, sizesFit, tablesFit, act, State, stateOf, recordIn, Leaves, stored, event}
-use Rattle.table.proofs.Meets.{step-meets, insert-meets, act-judged, act-meets, refused-stored, event-meets}
+use Rattle.table.proofs.Meets.{step-meets, insert-meets, act-judged, act-meets, refused-anywhere, event-meets}
 use Rattle.table.proofs.Tests.{if, and-left, and-right}
 
 -- ---- two memories that agree on the nodes in use
@@ -372,21 +372,7 @@ event-past-count : (σ : State) (e : Event) → σ .processes ≤ length (σ .ro
     → event σ e ≡ record { after = σ; outcome = cond (tablesFit (σ .nodes) (σ .processes) (σ .memory)) (Refused 1) (Refused 7) }
 event-past-count σ e h past =
     event-on-row σ e h
-    ∙ act-judged (λ x. stored σ p x ≡ record { after = σ; outcome = cond fits (Refused 1) (Refused 7) })
-    (σ .memory) (recordIn σ p) (σ .nodes) (σ .processes) e
-    (λ unfit. rw unfit (refused-stored σ p 7))
-    (λ fit beyond. rw fit (refused-stored σ p 1))
-    (λ fit there other. absurd (not-there there))
-    (λ fit there ready. absurd (not-there there))
-  where
-    p : Process
-    p = processOf e
-
-    fits : Bool
-    fits = tablesFit (σ .nodes) (σ .processes) (σ .memory)
-
-    not-there : ltb (p .0) (σ .processes) ≡ true → ⊥
-    not-there there = true≢false (sym there ∙ le-ltb (p .0) (σ .processes) past)
+    ∙ refused-anywhere σ (processOf e) e (λ fit there. true≢false (sym there ∙ le-ltb (processOf e .0) (σ .processes) past))
 
 module _ (a l d : List ℕ) (rs : List Record) (σ : State) (holds : Holds σ) (e : Event) where
   σ⁺ : State

@@ -65,6 +65,20 @@ pub refused-stored : (σ : State) (p : Process) (n : ℕ)
 unfolding stored recordIn
 refused-stored σ p n = rw (set-getD (σ .row) (p .0) freshRecord)
 
+-- refused for its tables or its process: with whatever record, at whatever place
+pub refused-anywhere : (σ : State) (p : Process) (e : Event)
+    → (tablesFit (σ .nodes) (σ .processes) (σ .memory) ≡ true → ltb (processOf e .0) (σ .processes) ≡ true → ⊥)
+    → stored σ p (act (σ .nodes) (σ .processes) (σ .memory) (recordIn σ p) e)
+    ≡ record { after = σ; outcome = cond (tablesFit (σ .nodes) (σ .processes) (σ .memory)) (Refused 1) (Refused 7) }
+refused-anywhere σ p e never =
+    act-judged
+    (λ x. stored σ p x ≡ record { after = σ; outcome = cond (tablesFit (σ .nodes) (σ .processes) (σ .memory)) (Refused 1) (Refused 7) })
+    (σ .memory) (recordIn σ p) (σ .nodes) (σ .processes) e
+    (λ unfit. rw unfit (refused-stored σ p 7))
+    (λ fit beyond. rw fit (refused-stored σ p 1))
+    (λ fit there other. absurd (never fit there))
+    (λ fit there ready. absurd (never fit there))
+
 pub event-meets : (P : Leaves → Type 0) (σ : State) (e : Event)
     → (leb (σ .processes) (length (σ .row)) ≡ true
     → P (stored σ (processOf e) (act (σ .nodes) (σ .processes) (σ .memory) (recordIn σ (processOf e)) e)))

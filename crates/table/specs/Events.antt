@@ -69,7 +69,7 @@ tablesFit nodes processes m =
     && leb 2 (m .count)
     && leb (m .count) nodes
 
--- "Order for an event: 7, 1, 2, 3, 8": the first of 7, 1 and 2, or what the event does, 3 and 8 among it
+-- "Order for an event: 7, 1, 2, 3, 8": the first of 7, 1 and 2 that is given; where none is, what the event does, 3 and 8 among it
 unfoldable pub act : (nodes processes : ℕ) → Memory → Record → Event → Acted
 act nodes processes m r e =
     let number = refusalIn (tablesFit nodes processes m) (ltb (processOf e .0) processes) (eqb (r .kept .status) (statusNeeded e)) in
