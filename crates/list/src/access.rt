@@ -8,6 +8,7 @@ ghost use lib.ListN.{getD, set};
 ghost use Rattle.table.specs.Words.{linkWord, deleterWord, noDeleter};
 ghost use Rattle.words.specs.Lent.{usedBelow, swapped};
 ghost use Rattle.list.specs.Parts.{readOf, swapWhere, Small};
+use record::NO_NODE;
 use record::Node;
 use record::Process;
 use words::Sizes;
@@ -24,7 +25,7 @@ fn deleter_word(p: Process) -> u32
 pub(crate) fn own_in_use(own: Node, count: u32) -> bool
     ensures { λ r. ⌜ r ≡ (not (eqb (own .0) 0) && usedBelow count own) ⌝ }
 {
-    (own.0 != 0) & words::in_use(own, count)
+    (own.0 != NO_NODE.0) & words::in_use(own, count)
 }
 
 // What a row learns by reading a link word: whether it goes on, target and mark.

@@ -11,10 +11,18 @@ use crate::Acted;
 use crate::answers;
 use crate::step;
 use record::Address;
+use record::DELETES;
+use record::DOWN;
 use record::Event;
+use record::FINDS;
+use record::IDLE;
+use record::INSERTS;
+use record::NO_NODE;
 use record::Node;
 use record::Process;
+use record::RUNNING;
 use record::Record;
+use record::TAIL;
 use words::Sizes;
 
 // The process of an event.
@@ -31,17 +39,17 @@ pub fn process_of(event: Event) -> Process
     }
 }
 
-// The status that an event needs: idle 0, running 1, down 2.
+// The status that an event needs.
 pub(crate) fn status_needed(event: Event) -> u8
     ensures { λ r. ⌜ r ≡ statusNeeded event ⌝ }
 {
     match event {
-        Event::Insert(_, _) => 0,
-        Event::Delete(_, _) => 0,
-        Event::Find(_, _) => 0,
-        Event::Step(_) => 1,
-        Event::Stop(_) => 1,
-        Event::Restart(_) => 2,
+        Event::Insert(_, _) => IDLE,
+        Event::Delete(_, _) => IDLE,
+        Event::Find(_, _) => IDLE,
+        Event::Step(_) => RUNNING,
+        Event::Stop(_) => RUNNING,
+        Event::Restart(_) => DOWN,
     }
 }
 
@@ -68,11 +76,11 @@ fn insert(
     if sizes.count == sizes.nodes {
         return answers::refused(sizes, old, 3);
     }
-    let link = words::link_word(Node(1), false);
+    let link = words::link_word(TAIL, false);
     words::write(addresses, taken, address.0);
     words::write(links, taken, link);
     words::write(deleters, taken, 0);
-    answers::accepted(given, Record::request(0, 0, address, taken))
+    answers::accepted(given, Record::request(0, INSERTS, address, taken))
 }
 
 // An event of a process that is there and has the status it needs.
@@ -93,11 +101,11 @@ pub(crate) fn does(
         Event::Insert(p, address) => insert(addresses, links, deleters, sizes, old, p, address),
         Event::Delete(_, address) => answers::accepted(
             sizes,
-            Record::request(0, 1, address, Node(0)),
+            Record::request(0, DELETES, address, NO_NODE),
         ),
         Event::Find(_, address) => answers::accepted(
             sizes,
-            Record::request(11, 2, address, Node(0)),
+            Record::request(11, FINDS, address, NO_NODE),
         ),
         Event::Step(p) => step::step(addresses, links, deleters, sizes, p, old),
         Event::Stop(_) => answers::accepted(sizes, old.goes_down()),

@@ -8,7 +8,9 @@ ghost use Rattle.list.specs.Parts.{StandsAt, stepped};
 use crate::Acted;
 use crate::access;
 use crate::answers;
+use record::FALSE;
 use record::Record;
+use record::TRUE;
 use words::Sizes;
 
 // Place 11: read curr's link; curr is the target.
@@ -23,7 +25,7 @@ pub(crate) fn row_11(addresses: &[u32], links: &[u32], sizes: Sizes, old: Record
     let fits = read.accepted;
     let order = words::compare(addresses, read.target, old.kept.address);
     let place = answers::pick(order.below, 11, answers::pick(order.equal, 12, 19));
-    let answer = answers::pick(order.below | order.equal, pending, 1);
+    let answer = answers::pick(order.below | order.equal, pending, FALSE);
     let left = old.walked(
         answers::node(fits, read.target, curr),
         answers::pick(fits, place, old.lost.place),
@@ -40,6 +42,6 @@ pub(crate) fn row_12(links: &[u32], sizes: Sizes, old: Record) -> Acted
 {
     let curr = old.lost.curr;
     let read = access::read_link(links, sizes, words::in_use(curr, sizes.count), curr);
-    let answer = answers::pick(read.mark, 1, 2);
+    let answer = answers::pick(read.mark, FALSE, TRUE);
     answers::turn(read.accepted, sizes, old, old.goes_with(19, answer))
 }

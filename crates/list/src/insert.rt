@@ -9,6 +9,7 @@ use crate::Acted;
 use crate::access;
 use crate::answers;
 use record::Record;
+use record::TRUE;
 use words::Sizes;
 
 // Place 3: write own link.
@@ -41,6 +42,6 @@ pub(crate) fn row_4(links: &mut [u32], sizes: Sizes, old: Record) -> Acted
         & access::own_in_use(own, sizes.count);
     let wrote = access::swap_link(links, accepted, pred, curr, own, false);
     let place = answers::pick(wrote, 18, 0);
-    let answer = answers::pick(wrote, 2, pending);
+    let answer = answers::pick(wrote, TRUE, pending);
     answers::turn(accepted, sizes, old, old.goes_with(place, answer))
 }

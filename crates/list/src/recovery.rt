@@ -9,9 +9,15 @@ ghost use Prim.Native.Nat.{_<_};
 use crate::Acted;
 use crate::access;
 use crate::answers;
+use record::DELETES;
+use record::FAIL;
+use record::INSERTS;
+use record::NO_ANSWER;
+use record::NO_NODE;
 use record::Outcome;
 use record::Process;
 use record::Record;
+use record::TRUE;
 use words::Sizes;
 
 // Place 13: read own record: it has its answer, it searches, it looks at its node, or it fails.
@@ -23,15 +29,19 @@ pub(crate) fn row_13(sizes: Sizes, old: Record) -> Acted
     let result = old.kept.result;
     let own = old.kept.node;
     let pending = old.lost.pending;
-    let answered = result != 0;
-    let inserts = old.kept.kind == 0;
-    let looks = (old.kept.kind == 1) & (own.0 != 0);
+    let answered = result != NO_ANSWER;
+    let inserts = old.kept.kind == INSERTS;
+    let looks = (old.kept.kind == DELETES) & (own.0 != NO_NODE.0);
     let place = answers::pick(
         answered,
         19,
         answers::pick(inserts, 0, answers::pick(looks, 15, 19)),
     );
-    let answer = answers::pick(answered, result, answers::pick(inserts | looks, pending, 3));
+    let answer = answers::pick(
+        answered,
+        result,
+        answers::pick(inserts | looks, pending, FAIL),
+    );
     answers::accepted(sizes, old.goes_with(place, answer))
 }
 
@@ -44,7 +54,7 @@ pub(crate) fn row_14(links: &[u32], sizes: Sizes, old: Record) -> Acted
     let own = old.kept.node;
     let read = access::read_link(links, sizes, access::own_in_use(own, sizes.count), own);
     let place = answers::pick(read.mark, 18, 19);
-    let answer = answers::pick(read.mark, 2, 3);
+    let answer = answers::pick(read.mark, TRUE, FAIL);
     answers::turn(read.accepted, sizes, old, old.goes_with(place, answer))
 }
 
@@ -58,7 +68,7 @@ pub(crate) fn row_15(links: &[u32], sizes: Sizes, old: Record) -> Acted
     let pending = old.lost.pending;
     let read = access::read_link(links, sizes, access::own_in_use(own, sizes.count), own);
     let place = answers::pick(read.mark, 16, 19);
-    let answer = answers::pick(read.mark, pending, 3);
+    let answer = answers::pick(read.mark, pending, FAIL);
     answers::turn(read.accepted, sizes, old, old.goes_with(place, answer))
 }
 
@@ -86,7 +96,7 @@ pub(crate) fn row_17(deleters: &[u32], sizes: Sizes, p: Process, old: Record) ->
     let accepted = access::own_in_use(own, sizes.count);
     let mine = access::read_deleter(deleters, own, p);
     let place = answers::pick(mine, 18, 19);
-    let answer = answers::pick(mine, 2, 3);
+    let answer = answers::pick(mine, TRUE, FAIL);
     answers::turn(accepted, sizes, old, old.goes_with(place, answer))
 }
 

@@ -8,8 +8,11 @@ ghost use Rattle.list.specs.Parts.{StandsAt, Within, stepped, EndsAt};
 use crate::Acted;
 use crate::access;
 use crate::answers;
-use record::Node;
+use record::FALSE;
+use record::HEAD;
+use record::INSERTS;
 use record::Record;
+use record::TRUE;
 use words::Sizes;
 
 // Where a search that ends goes, and the pending answer that it goes with.
@@ -24,11 +27,11 @@ fn search_ends(recovering: bool, at_own: bool, inserts: bool, same: bool, pendin
 {
     let found = Goal {
         place: 18,
-        answer: 2,
+        answer: TRUE,
     };
     let refuted = Goal {
         place: 18,
-        answer: 1,
+        answer: FALSE,
     };
     if recovering {
         if at_own {
@@ -63,7 +66,7 @@ pub(crate) fn row_0(links: &[u32], sizes: Sizes, old: Record) -> Acted
     ensures { λ a. ⌜ ((addresses deleters : List ℕ) → (p : spec.Process) → left addresses (now (links .entry)) deleters a ≡
         stepped addresses (now (links .entry)) deleters sizes p old) ⌝ }
 {
-    let read = access::read_link(links, sizes, true, Node(0));
+    let read = access::read_link(links, sizes, true, HEAD);
     answers::turn(read.accepted, sizes, old, old.from_head(read.target))
 }
 
@@ -82,7 +85,7 @@ pub(crate) fn row_1(addresses: &[u32], links: &[u32], sizes: Sizes, old: Record)
     let ends = search_ends(
         recovering,
         curr.0 == own.0,
-        old.kept.kind == 0,
+        old.kept.kind == INSERTS,
         order.equal,
         pending,
     );

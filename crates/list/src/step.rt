@@ -12,6 +12,9 @@ use crate::find;
 use crate::insert;
 use crate::recovery;
 use crate::search;
+use record::FAIL;
+use record::FINDS;
+use record::NO_ANSWER;
 use record::Process;
 use record::Record;
 use words::Sizes;
@@ -27,9 +30,9 @@ fn in_range(old: Record) -> bool
         & (kind <= 2)
         & (pending <= 3)
         & (old.kept.result <= 2)
-        & !((place == 18) & ((pending == 0) | (pending == 3)))
-        & !((place == 19) & (pending == 0))
-        & !((place <= 2) & (kind == 2))
+        & !((place == 18) & ((pending == NO_ANSWER) | (pending == FAIL)))
+        & !((place == 19) & (pending == NO_ANSWER))
+        & !((place <= 2) & (kind == FINDS))
 }
 
 // The row of a record whose fields are in their ranges.

@@ -15,6 +15,35 @@ pub struct Process(pub u32);
 // A claimed address: any 32-bit number.
 pub struct Address(pub u32);
 
+pub const HEAD: Node = Node(0);
+
+pub const TAIL: Node = Node(1);
+
+pub const NO_NODE: Node = Node(0);
+
+// A process's status.
+pub const IDLE: u8 = 0;
+
+pub const RUNNING: u8 = 1;
+
+pub const DOWN: u8 = 2;
+
+// The kind of its operation.
+pub const INSERTS: u8 = 0;
+
+pub const DELETES: u8 = 1;
+
+pub const FINDS: u8 = 2;
+
+// Answers and results.
+pub const NO_ANSWER: u8 = 0;
+
+pub const FALSE: u8 = 1;
+
+pub const TRUE: u8 = 2;
+
+pub const FAIL: u8 = 3;
+
 // What a stop loses. Here and below the small fields come last, so that a record is copied in whole words; 01's order is that of `lostPart`.
 pub struct Lost {
     pub pred: Node,
@@ -92,10 +121,10 @@ fn lost_at(place: u8) -> Lost
 {
     Lost {
         place,
-        pred: Node(0),
-        curr: Node(0),
-        succ: Node(0),
-        pending: 0,
+        pred: NO_NODE,
+        curr: NO_NODE,
+        succ: NO_NODE,
+        pending: NO_ANSWER,
         recovering: false,
     }
 }
@@ -117,11 +146,11 @@ impl Record {
     {
         let lost = lost_at(0);
         let kept = Kept {
-            status: 0,
+            status: IDLE,
             kind: 0,
             address: Address(0),
-            node: Node(0),
-            result: 0,
+            node: NO_NODE,
+            result: NO_ANSWER,
         };
         Record { lost, kept }
     }
@@ -132,11 +161,11 @@ impl Record {
     {
         let lost = lost_at(place);
         let kept = Kept {
-            status: 1,
+            status: RUNNING,
             kind,
             address,
             node: own,
-            result: 0,
+            result: NO_ANSWER,
         };
         Record { lost, kept }
     }
@@ -145,7 +174,7 @@ impl Record {
     pub fn from_head(mut self, target: Node) -> Record
         ensures { λ r. ⌜ r ≡ (self ▸ pred≔ headNode ▸ curr≔ target ▸ to 1) ⌝ }
     {
-        let head = Node(0);
+        let head = HEAD;
         let mut lost = self.lost;
         lost.pred = head;
         lost.curr = target;
@@ -248,7 +277,7 @@ impl Record {
     pub fn rests(mut self) -> Record
         ensures { λ r. ⌜ r ≡ (self ▸ status≔ Idle) ⌝ }
     {
-        self.kept.status = 0;
+        self.kept.status = IDLE;
         self
     }
 
@@ -258,7 +287,7 @@ impl Record {
     {
         let lost = lost_at(0);
         self.lost = lost;
-        self.kept.status = 2;
+        self.kept.status = DOWN;
         self
     }
 
@@ -268,7 +297,7 @@ impl Record {
     {
         self.lost.place = 13;
         self.lost.recovering = true;
-        self.kept.status = 1;
+        self.kept.status = RUNNING;
         self
     }
 }
