@@ -22,7 +22,7 @@ use Rattle.words.specs.declared.Sizes.{Sizes}
 use Rattle.list.specs.declared.Acted.{Acted}
 use Rattle.list.specs.Acting.{Left, left, leftOf, actOn, counted}
 use Rattle.list.specs.Parts.{answered, stepped, Within}
-use Rattle.list.proofs.Tested.{and-left, and-right}
+use Rattle.table.proofs.Tests.{and-left, and-right}
 
 -- where no test refuses, each holds
 none-refuses : (fits there ready : Bool) (refusal : ℕ) → refusal ≡ refusalIn fits there ready → refusal ≡ 0 →

@@ -1,5 +1,5 @@
 -- What the rows' words and tests say of the nodes that they name. Rests on Parts.
-use mathlib.Core.Path.{_≡_, refl, sym, _∙_}
+use mathlib.Core.Path.{_≡_, sym, _∙_}
 use mathlib.Core.Bool.{Bool, true, false, cond, not, _&&_}
 use mathlib.Core.List.{List}
 use Prim.Native.Nat.{ℕ, _<_, _%_}
@@ -8,6 +8,7 @@ use lib.ListN.{set}
 use native.Mathlib.Omega.{arith}
 use Rattle.record.specs.declared.Node.{Node}
 use Rattle.table.specs.Words.{linkWord}
+use Rattle.table.proofs.Tests.{and-left, and-right}
 use Rattle.words.specs.Lent.{Swapped, swapOf}
 use Rattle.words.specs.declared.Sizes.{Sizes}
 use Rattle.words.proofs.Links.{small-word}
@@ -35,15 +36,6 @@ module _ (accepted : Bool) (words : List ℕ) (n from to : Node) (mark : Bool) (
   link-written after made = made ∙ rw (g, new-word)
 
 -- ---- the nodes of an accepted row are small
-
-pub and-left : (a b : Bool) → (a && b) ≡ true → a ≡ true
-and-left true b h = refl
-and-left false b h = h
-
-pub and-right : (a b : Bool) → (a && b) ≡ true → b ≡ true
-and-right true b h = h
-and-right false true h = refl
-and-right false false h = h
 
 pub plain : (t : Bool) (n k : ℕ) → t ≡ ltb n k → t ≡ true → n < k
 plain t n k e h = ltb-true n k (sym e ∙ h)

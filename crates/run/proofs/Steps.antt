@@ -18,6 +18,7 @@ use Rattle.record.specs.declared.Outcome.the-variants as outcome
 use Rattle.table.specs.Words.{Memory, memory, linkAt, addressAt, targetOf}
 use Rattle.table.specs.Events.{State, Acted, act, acted, sizesFit, tablesFit, event, stored, recordIn, Leaves}
 use Rattle.table.specs.Chain.{goesOn}
+use Rattle.table.proofs.Tests.{and-false}
 use Rattle.table.proofs.Meets.{refused-anywhere}
 use Rattle.list.specs.Acting.{Left, actOn}
 use Rattle.schedule.specs.declared.Cursor.{Cursor}
@@ -42,10 +43,6 @@ use Rattle.run.specs.Parts.{Ready, slotOf, stoppedText, lastText}
 use Rattle.run.proofs.Fills.{full, at-end}
 
 -- ---- an event by the place of its process's record in a row of 64
-
-and-false : (a : Bool) → (a && false) ≡ false
-and-false true = refl
-and-false false = refl
 
 too-many : (nodes processes : ℕ) (m : Memory) → 64 < processes → tablesFit nodes processes m ≡ false
 unfolding tablesFit sizesFit

@@ -10,7 +10,7 @@ use Rattle.record.specs.declared.Process.{Process}
 use Rattle.record.specs.declared.Record.{Record}
 use Rattle.record.specs.declared.Outcome.{Outcome}
 use Rattle.record.specs.Event.{outcomeOf, accepted}
-use Rattle.table.specs.Words.{Memory, linkAt, deleterAt, targetOf, isMarked, noDeleter, deleterWord, inUse}
+use Rattle.table.specs.Words.{Memory, linkAt, deleterAt, targetOf, isMarked, noDeleter, deleterWord, inUse, swaps}
 use Rattle.table.specs.Words.{Write, nothing, linkIs, deleterIs}
 use Rattle.table.specs.Places.{Field, head, pred, curr, succ, own, nodeOf, Link, unmarked, marked, linkOf, Next, goes, usesOwn}
 use Rattle.table.specs.Places.{Row, readLink, writeLink, swapLink, readDeleter, swapDeleter, writeNode, ownRecord, handOut, placeOf, row}
@@ -43,7 +43,7 @@ access uses meets leads writes next says =
 abbrev pub fieldOf : Link → Field
 fieldOf l = elim l [ unmarked f ↦ f | marked f ↦ f ]
 
--- "A swap compares the whole link or deleter word and writes only if equal."
+-- what each sort of row comes to
 abbrev pub accessOf : Process → Record → Row → Access
 accessOf p r (readLink f follows) =
     access (f ∷ []) (link f) (λ w. targetOf w ∷ []) (λ w. nothing) (λ w. follows (targetOf w) (isMarked w)) accepted
@@ -51,13 +51,13 @@ accessOf p r (writeLink f new after) =
     access (f ∷ fieldOf new ∷ []) (link f) (λ w. []) (λ w. linkIs (nodeOf r f) (linkOf r new)) (λ w. goes after) accepted
 accessOf p r (swapLink f old new done lost) =
     access (f ∷ fieldOf old ∷ fieldOf new ∷ []) (link f) (λ w. [])
-    (λ w. cond (eqb w (linkOf r old)) (linkIs (nodeOf r f) (linkOf r new)) nothing)
-    (λ w. goes (cond (eqb w (linkOf r old)) done lost)) accepted
+    (λ w. cond (swaps w (linkOf r old)) (linkIs (nodeOf r f) (linkOf r new)) nothing)
+    (λ w. goes (cond (swaps w (linkOf r old)) done lost)) accepted
 accessOf p r (readDeleter f follows) =
     access (f ∷ []) (deleter f) (λ w. []) (λ w. nothing) (λ w. goes (follows (eqb w (deleterWord p)))) accepted
 accessOf p r (swapDeleter f after) =
     access (f ∷ []) (deleter f) (λ w. [])
-    (λ w. cond (eqb w noDeleter) (deleterIs (nodeOf r f) (deleterWord p)) nothing) (λ w. goes after) accepted
+    (λ w. cond (swaps w noDeleter) (deleterIs (nodeOf r f) (deleterWord p)) nothing) (λ w. goes after) accepted
 accessOf p r (writeNode f after) = access (f ∷ []) noWord (λ w. []) (λ w. nothing) (λ w. goes after) accepted
 accessOf p r (ownRecord after) = access [] noWord (λ w. []) (λ w. nothing) (λ w. goes after) accepted
 accessOf p r (handOut answer after) = access [] noWord (λ w. []) (λ w. nothing) (λ w. goes after) (outcomeOf 0 (some answer))

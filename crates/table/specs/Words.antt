@@ -68,6 +68,10 @@ equal addresses n a = eqb (rank addresses n) (rankOf a)
 
 -- ---- one word written
 
+-- "A swap compares the whole link or deleter word and writes only if equal."
+abbrev pub swaps : (met expected : ℕ) → Bool
+swaps met expected = eqb met expected
+
 pub data Write : Type 0 where
   nothing : Write
   linkIs : Node → ℕ → Write

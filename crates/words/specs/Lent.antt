@@ -2,11 +2,10 @@
 use mathlib.Core.Bool.{Bool, true, false, cond}
 use mathlib.Core.List.{List, []}
 use Prim.Native.Nat.{ℕ}
-use lib.Dec.{eqb}
 use lib.ListN.{getD, set}
 use Rattle.record.specs.declared.Node.{Node}
 use Rattle.record.specs.declared.Address.{Address}
-use Rattle.table.specs.Words.{memory, inUse, below, equal}
+use Rattle.table.specs.Words.{memory, inUse, swaps, below, equal}
 use Rattle.words.specs.declared.Order.{Order}
 
 -- a node in use, of which only the count decides
@@ -25,7 +24,7 @@ pub record Swapped : Type 0 where
 abbrev pub swapped : List ℕ → Bool → Swapped
 swapped words wrote = record { words = words; wrote = wrote }
 
--- "A swap compares the whole link or deleter word and writes only if equal."
+-- a swap of a node's word
 unfoldable pub swapOf : List ℕ → Node → (expected new : ℕ) → Swapped
 swapOf words n expected new =
-    cond (eqb (getD words (n .0) 0) expected) (swapped (set words (n .0) new) true) (swapped words false)
+    cond (swaps (getD words (n .0) 0) expected) (swapped (set words (n .0) new) true) (swapped words false)

@@ -7,7 +7,9 @@ ghost use Rattle.table.specs.Words.{memory, linkWord, targetOf, isMarked, rank,
 ghost use Rattle.table.specs.Events.{sizesFit, tablesFit};
 ghost use Rattle.words.specs.Lent.{usedBelow, orderOf, swapped, swapOf};
 use record::Address;
+use record::HEAD;
 use record::Node;
+use record::TAIL;
 
 // The stated sizes, and the count of nodes given out.
 pub struct Sizes {
@@ -85,6 +87,9 @@ pub fn word_at(words: &[u32], n: Node) -> u32
     0
 }
 
+// Where tail sorts: past the largest address.
+const ABOVE_ALL: u64 = 4294967297;
+
 // Where an address sorts: above head, below tail.
 fn address_rank(address: Address) -> u64
     ensures { λ r. ⌜ r ≡ rankOf address ⌝ }
@@ -96,11 +101,11 @@ fn address_rank(address: Address) -> u64
 pub fn rank_of(addresses: &[u32], n: Node) -> u64
     ensures { λ r. ⌜ r ≡ rank (now (addresses .entry)) n ⌝ }
 {
-    if n.0 == 0 {
+    if n.0 == HEAD.0 {
         return 0;
     }
-    if n.0 == 1 {
-        return 4294967297;
+    if n.0 == TAIL.0 {
+        return ABOVE_ALL;
     }
     address_rank(Address(word_at(addresses, n)))
 }
