@@ -112,5 +112,6 @@ examples =
 -- ---- the statement
 
 pub examples-hold : map (λ w. shows (w .example)) examples ≡ map (λ w. w .wanted) examples
-unfolding shows numberBytes groups readNumber moreGroups _then_ fresh freshMemory outcomes runs event stored recordIn act refusalIn tablesFit sizesFit does stepOf turnIn inRange wordMet row searchEnds placeOf written givenOut rank addressAt linkAt deleterAt
+unfolding shows numberBytes groups readNumber moreGroups _then_ fresh freshMemory outcomes runs event stored recordIn act refusalIn tablesFit sizesFit
+    does stepOf turnIn inRange wordMet row searchEnds placeOf written givenOut rank addressAt linkAt deleterAt
 examples-hold = refl

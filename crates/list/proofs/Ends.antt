@@ -146,7 +146,8 @@ module _ (addresses links deleters : List ℕ) (sizes : Sizes) (p : Process) (r 
       onto ≡ cond fits (read .target) (r .lost .succ) →
       place ≡ cond fits next-place (r .lost .place) →
       answer ≡ cond fits next-answer (r .lost .pending) →
-      x ≡ (cond (fits && not (read .mark) && order .below) (r ▸ succ≔ onto ▸ pred≔ (r .lost .curr) ▸ curr≔ onto) (r ▸ succ≔ onto) ▸ place with answer) →
+      x ≡ (cond (fits && not (read .mark) && order .below) (r ▸ succ≔ onto ▸ pred≔ (r .lost .curr) ▸ curr≔ onto) (r ▸ succ≔ onto) ▸ place with answer)
+      →
       a ≡ answered sizes x (cond fits Accepted (Refused 8)) →
       left addresses links deleters a ≡ stepped addresses links deleters sizes p r)
   scanned at usable-curr own-used read order ends low-place next-place next-answer onto place answer x a u k o e l n w h t q v made is =

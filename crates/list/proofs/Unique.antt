@@ -1,5 +1,5 @@
--- The promise of `act` leaves one outcome: any two that meet it for the same entry are equal; so does that of `process_of`, by the record's `answer-unique`.
--- Rests on the bundle of Acting.
+-- The promise of `act` leaves one outcome: any two that meet it for the same entry are equal; so does that of `process_of`, by the record's
+-- `answer-unique`. Rests on the bundle of Acting.
 use mathlib.Core.Path.{_≡_, sym, ap, _∙_}
 use mathlib.Core.List.{List}
 use Prim.Native.Nat.{ℕ}

@@ -46,7 +46,7 @@ outcomeOf (suc refusal) answer = Refused (suc refusal)
 abbrev pub accepted : Outcome
 accepted = outcomeOf 0 none
 
--- "Order for an event: 7, 1, 2, ..": the number of the first of these three that is given, 0 for none, by whether its tables fit, its process is there and
--- has the status that it needs
+-- "Order for an event: 7, 1, 2, ..": the number of the first of these three that is given, 0 for none, by whether its tables fit, its process is
+-- there and has the status that it needs
 unfoldable pub refusalIn : (fits there ready : Bool) → ℕ
 refusalIn fits there ready = cond fits (cond there (cond ready 0 2) 1) 7

@@ -18,7 +18,10 @@ first-refusal-requires c κs = search needs
 
 does-requires : tie.Need-does-requires
 does-requires c κs =
-    able _ _ _ _ (c .before .before .before .before .before .before .before .before .before .before .before .before .before .before .before .before .before .args .«record») (c .before .before .before .before .before .before .before .before .before .before .before .before .before .before .before .before .before .args .event) _ _ _ _ (c .before .before .before .before .before .before .before .before .before .before .tables-fit .ensures) (c .before .before .before .before .before .before .before .before .before .process-of .ensures) (c .before .before .before .before .before .before .status-needed .ensures) (c .before .before .before .before .first-refusal .ensures)
+    let judged = c .before .before .before .before in
+    able _ _ _ _ (judged .before .before .before .before .before .before .before .before .before .before .before .before .before .args .«record») (judged .before .before .before .before .before .before .before .before .before .before .before .before .before .args .event) _ _ _ _
+    (judged .before .before .before .before .before .before .tables-fit .ensures) (judged .before .before .before .before .before .process-of .ensures)
+    (judged .before .before .status-needed .ensures) (judged .first-refusal .ensures)
     (c .before .before .before .if1 .taken)
 
 same-length : tie.Need-same-length
@@ -32,7 +35,10 @@ same-length-3 c = search needs
 
 returns : tie.Need-returns
 returns c =
-    acts _ _ _ _ (c .before .before .before .before .before .before .before .before .before .before .before .before .before .before .before .before .before .before .before .before .before .before .before .before .args .«record») (c .before .before .before .before .before .before .before .before .before .before .before .before .before .before .before .before .before .before .before .before .before .before .before .before .args .event) _ _ _ _ (c .before .before .before .before .before .before .before .before .before .before .before .before .before .before .before .before .before .tables-fit .ensures) (c .before .before .before .before .before .before .before .before .before .before .before .before .before .before .before .before .process-of .ensures) (c .before .before .before .before .before .before .before .before .before .before .before .before .before .status-needed .ensures) (c .before .before .before .before .before .before .before .before .before .before .before .first-refusal .ensures)
+    let judged = c .before .before .before .before .before .before .before .before .before .before .before in
+    acts _ _ _ _ (judged .before .before .before .before .before .before .before .before .before .before .before .before .before .args .«record») (judged .before .before .before .before .before .before .before .before .before .before .before .before .before .args .event) _ _ _ _
+    (judged .before .before .before .before .before .before .tables-fit .ensures) (judged .before .before .before .before .before .process-of .ensures)
+    (judged .before .before .status-needed .ensures) (judged .first-refusal .ensures)
     (c .before .before .before .before .before .before .before .before .before .before .if1 .taken) _ (c .before .before .before .before .before .before .does .ensures)
 
 refused-requires : tie.Need-refused-requires
@@ -49,7 +55,10 @@ same-length-6 c = search needs
 
 returns-2 : tie.Need-returns-2
 returns-2 c =
-    refuses _ _ _ _ (c .before .before .before .before .before .before .before .before .before .before .before .before .before .before .before .args .«record») (c .before .before .before .before .before .before .before .before .before .before .before .before .before .before .before .args .event) _ _ _ _ (c .before .before .before .before .before .before .before .before .tables-fit .ensures) (c .before .before .before .before .before .before .before .process-of .ensures) (c .before .before .before .before .status-needed .ensures) (c .before .before .first-refusal .ensures)
+    let judged = c .before .before in
+    refuses _ _ _ _ (judged .before .before .before .before .before .before .before .before .before .before .before .before .before .args .«record») (judged .before .before .before .before .before .before .before .before .before .before .before .before .before .args .event) _ _ _ _
+    (judged .before .before .before .before .before .before .tables-fit .ensures) (judged .before .before .before .before .before .process-of .ensures)
+    (judged .before .before .status-needed .ensures) (judged .first-refusal .ensures)
     (c .before .if1 .left) _ (c .refused .ensures)
 
 pub act-spec : {M : Type 1} → statement M

@@ -20,7 +20,10 @@ same-length c = search needs
 
 returns : tie.Need-returns
 returns c =
-    links-swapped _ _ _ _ _ (c .before .before .before .before .before .before .before .before .args .mark) (c .before .before .before .before .before .before .before .before .pre) (c .before .before .before .before .before .before .if1 .taken) _ (c .before .before .before .before .link-word2 .ensures) _ _ (c .before .before .swap .ensures) (c .before .before .before .before .before .link-word .ensures)
+    links-swapped _ _ _ _ _ (c .before .before .before .before .before .before .before .before .args .mark)
+    (c .before .before .before .before .before .before .before .before .pre) (c .before .before .before .before .before .before .if1 .taken) _
+    (c .before .before .before .before .link-word2 .ensures) _ _ (c .before .before .swap .ensures)
+    (c .before .before .before .before .before .link-word .ensures)
 
 returns-2 : tie.Need-returns-2
 unfolding swapWhere

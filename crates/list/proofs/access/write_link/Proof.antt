@@ -16,7 +16,10 @@ same-length c = search needs
 
 returns : tie.Need-returns
 returns c =
-    link-written _ (c .before .before .before .before .before .before .before .args .links .now) (c .before .before .before .before .before .before .before .args .n) _ _ false (c .before .before .before .before .before .before .before .pre) (c .before .before .before .before .before .if1 .taken) _ (c .before .before .before .before .link-word .ensures) _ (c .before .before .write .ensures)
+    link-written _ (c .before .before .before .before .before .before .before .args .links .now)
+    (c .before .before .before .before .before .before .before .args .n) _ _ false (c .before .before .before .before .before .before .before .pre)
+    (c .before .before .before .before .before .if1 .taken) _ (c .before .before .before .before .link-word .ensures) _
+    (c .before .before .write .ensures)
 
 returns-2 : tie.Need-returns-2
 returns-2 c = search needs

@@ -26,8 +26,15 @@ turn-requires c κs = search needs
 returns : tie.Need-returns
 unfolding row placeOf
 returns c addresses links =
-    rw (c .turn .ensures, c .before .goes-with .ensures, c .before .before .pick .ensures, c .before .before .before .read-deleter .ensures, c .before .before .before .before .in-use .ensures)
-    (read-deleter addresses links _ _ _ _ 10 (c .before .before .before .before .before .before .before .pre .0) curr _ (λ r mine. r ▸ 18 with cond mine 2 1) refl (bools _ refl refl))
+    rw (
+      c .turn .ensures,
+      c .before .goes-with .ensures,
+      c .before .before .pick .ensures,
+      c .before .before .before .read-deleter .ensures,
+      c .before .before .before .before .in-use .ensures,
+    )
+    (read-deleter addresses links _ _ _ _ 10 (c .before .before .before .before .before .before .before .pre .0) curr _
+    (λ r mine. r ▸ 18 with cond mine 2 1) refl (bools _ refl refl))
 
 pub row-10-spec : {M : Type 1} → statement M
 row-10-spec =

@@ -27,8 +27,15 @@ turn-requires c κs = search needs
 returns : tie.Need-returns
 unfolding row placeOf readOf
 returns c addresses deleters p =
-    rw (c .turn .ensures, c .before .found .ensures, c .before .before .pick .ensures, c .before .before .before .read-link .ensures, c .before .before .before .before .in-use .ensures)
-    (read-link addresses _ deleters _ p _ 6 (c .before .before .before .before .before .before .before .pre) curr _ (λ r target mark. r ▸ succ≔ target ▸ to (cond mark 8 7)) refl (λ target. bools _ refl refl))
+    rw (
+      c .turn .ensures,
+      c .before .found .ensures,
+      c .before .before .pick .ensures,
+      c .before .before .before .read-link .ensures,
+      c .before .before .before .before .in-use .ensures,
+    )
+    (read-link addresses _ deleters _ p _ 6 (c .before .before .before .before .before .before .before .pre) curr _
+    (λ r target mark. r ▸ succ≔ target ▸ to (cond mark 8 7)) refl (λ target. bools _ refl refl))
 
 pub row-6-spec : {M : Type 1} → statement M
 row-6-spec =

@@ -33,8 +33,12 @@ returns : tie.Need-returns
 unfolding row placeOf
 returns c addresses deleters p =
     rw (c .turn .ensures, c .before .goes .ensures)
-    (swapped-link addresses _ deleters _ p _ 7 (c .before .before .before .before .before .before .before .before .before .before .before .pre .0) curr _ _ _ _ (λ r b. r ▸ to 6) _ _ _ refl (bools _ refl refl)
-    (rw (c .before .before .before .before .before .before .in-use2 .ensures, c .before .before .before .before .before .before .before .in-use .ensures)) (c .before .before .before .before .swap-link .ensures))
+    (swapped-link addresses _ deleters _ p _ 7 (c .before .before .before .before .before .before .before .before .before .before .before .pre .0)
+    curr _ _ _ _ (λ r b. r ▸ to 6) _ _ _ refl (bools _ refl refl)
+    (rw (
+      c .before .before .before .before .before .before .in-use2 .ensures,
+      c .before .before .before .before .before .before .before .in-use .ensures,
+    )) (c .before .before .before .before .swap-link .ensures))
 
 pub row-7-spec : {M : Type 1} → statement M
 row-7-spec =

@@ -19,7 +19,8 @@ in-use-requires-3 c κs = search needs
 
 swap-link-requires : tie.Need-swap-link-requires
 swap-link-requires c κs =
-    three-small _ (c .before .before .before .before .before .before .before .before .pre .1) _ _ (c .before .before .before .in-use .result) (c .before .before .in-use2 .result) _
+    three-small _ (c .before .before .before .before .before .before .before .before .pre .1) _ _ (c .before .before .before .in-use .result)
+    (c .before .before .in-use2 .result) _
     (plain _ _ _ (c .before .before .in-use2 .ensures))
     (plain _ _ _ (c .before .in-use3 .ensures))
 
@@ -36,8 +37,14 @@ returns : tie.Need-returns
 unfolding row placeOf
 returns c addresses deleters p =
     rw (c .turn .ensures, c .before .goes .ensures)
-    (swapped-link addresses _ deleters _ p _ 8 (c .before .before .before .before .before .before .before .before .before .before .before .before .before .pre .0) pred _ _ _ _ (λ r b. r ▸ to 9) _ _ _ refl (bools _ refl refl)
-    (rw (c .before .before .before .before .before .before .in-use3 .ensures, c .before .before .before .before .before .before .before .in-use2 .ensures, c .before .before .before .before .before .before .before .before .in-use .ensures)) (c .before .before .before .before .swap-link .ensures))
+    (swapped-link addresses _ deleters _ p _ 8
+    (c .before .before .before .before .before .before .before .before .before .before .before .before .before .pre .0) pred _ _ _ _ (λ r b. r ▸ to 9)
+    _ _ _ refl (bools _ refl refl)
+    (rw (
+      c .before .before .before .before .before .before .in-use3 .ensures,
+      c .before .before .before .before .before .before .before .in-use2 .ensures,
+      c .before .before .before .before .before .before .before .before .in-use .ensures,
+    )) (c .before .before .before .before .swap-link .ensures))
 
 pub row-8-spec : {M : Type 1} → statement M
 row-8-spec =

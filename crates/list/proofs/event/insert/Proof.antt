@@ -44,7 +44,11 @@ same-length-3 c = search needs
 
 returns-2 : tie.Need-returns-2
 returns-2 c =
-    gives-out _ _ _ _ _ _ _ _ _ _ _ _ _ (c .before .before .before .before .before .before .before .before .before .before .before .before .write .ensures) (c .before .before .before .before .before .before .before .before .write2 .ensures) (c .before .before .before .before .write3 .ensures) (c .before .before .before .before .before .before .before .before .before .before .before .before .before .before .link-word .ensures) (c .before .before .before .before .before .before .before .before .before .before .before .before .before .before .before .if1 .left)
+    gives-out _ _ _ _ _ _ _ _ _ _ _ _ _
+    (c .before .before .before .before .before .before .before .before .before .before .before .before .write .ensures)
+    (c .before .before .before .before .before .before .before .before .write2 .ensures) (c .before .before .before .before .write3 .ensures)
+    (c .before .before .before .before .before .before .before .before .before .before .before .before .before .before .link-word .ensures)
+    (c .before .before .before .before .before .before .before .before .before .before .before .before .before .before .before .if1 .left)
     (c .accepted .ensures) (c .before .request .ensures)
 
 pub insert-spec : {M : Type 1} → statement M

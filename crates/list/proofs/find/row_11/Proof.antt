@@ -42,8 +42,21 @@ judged-requires c κs = search needs
 returns : tie.Need-returns
 unfolding readOf orderOf
 returns c deleters p =
-    rw (c .judged .ensures, c .before .walked .ensures, c .before .before .pick5 .ensures, c .before .before .before .pick4 .ensures, c .before .before .before .before .node .ensures, c .before .before .before .before .before .pick3 .ensures, c .before .before .before .before .before .before .before .pick2 .ensures, c .before .before .before .before .before .before .before .before .pick .ensures, c .before .before .before .before .before .before .before .before .before .compare .ensures, c .before .before .before .before .before .before .before .before .before .before .read-link .ensures, c .before .before .before .before .before .before .before .before .before .before .before .in-use .ensures)
-    (walks _ _ deleters _ p _ (c .before .before .before .before .before .before .before .before .before .before .before .before .before .before .before .pre))
+    rw (
+      c .judged .ensures,
+      c .before .walked .ensures,
+      c .before .before .pick5 .ensures,
+      c .before .before .before .pick4 .ensures,
+      c .before .before .before .before .node .ensures,
+      c .before .before .before .before .before .pick3 .ensures,
+      c .before .before .before .before .before .before .before .pick2 .ensures,
+      c .before .before .before .before .before .before .before .before .pick .ensures,
+      c .before .before .before .before .before .before .before .before .before .compare .ensures,
+      c .before .before .before .before .before .before .before .before .before .before .read-link .ensures,
+      c .before .before .before .before .before .before .before .before .before .before .before .in-use .ensures,
+    )
+    (walks _ _ deleters _ p _
+    (c .before .before .before .before .before .before .before .before .before .before .before .before .before .before .before .pre))
 
 pub row-11-spec : {M : Type 1} → statement M
 row-11-spec =

@@ -15,7 +15,8 @@ in-use-requires c κs = search needs
 
 write-link-requires : tie.Need-write-link-requires
 write-link-requires c κs =
-    two-small _ (c .before .before .before .before .before .before .pre .1) _ (c .before .before .own-in-use .result) _ (plain _ _ _ (c .before .in-use .ensures))
+    two-small _ (c .before .before .before .before .before .before .pre .1) _ (c .before .before .own-in-use .result) _
+    (plain _ _ _ (c .before .in-use .ensures))
 
 goes-requires : tie.Need-goes-requires
 goes-requires c κs = search needs
@@ -29,8 +30,15 @@ same-length c = search needs
 returns : tie.Need-returns
 unfolding row placeOf
 returns c addresses deleters p =
-    rw (c .turn .ensures, c .before .goes .ensures, c .before .before .before .before .write-link .ensures, c .before .before .before .before .before .before .in-use .ensures, c .before .before .before .before .before .before .before .own-in-use .ensures)
-    (write-link addresses _ deleters _ p _ 3 (c .before .before .before .before .before .before .before .before .before .before .before .pre .0) own _ _ refl)
+    rw (
+      c .turn .ensures,
+      c .before .goes .ensures,
+      c .before .before .before .before .write-link .ensures,
+      c .before .before .before .before .before .before .in-use .ensures,
+      c .before .before .before .before .before .before .before .own-in-use .ensures,
+    )
+    (write-link addresses _ deleters _ p _ 3 (c .before .before .before .before .before .before .before .before .before .before .before .pre .0) own _
+    _ refl)
 
 pub row-3-spec : {M : Type 1} → statement M
 row-3-spec =

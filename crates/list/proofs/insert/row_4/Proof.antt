@@ -20,7 +20,8 @@ own-in-use-requires c κs = search needs
 
 swap-link-requires : tie.Need-swap-link-requires
 swap-link-requires c κs =
-    three-small _ (c .before .before .before .before .before .before .before .before .pre .1) _ _ (c .before .before .before .in-use .result) (c .before .before .in-use2 .result) _
+    three-small _ (c .before .before .before .before .before .before .before .before .pre .1) _ _ (c .before .before .before .in-use .result)
+    (c .before .before .in-use2 .result) _
     (plain _ _ _ (c .before .before .in-use2 .ensures))
     (some _ _ _ (c .before .own-in-use .ensures))
 
@@ -43,8 +44,15 @@ returns : tie.Need-returns
 unfolding row placeOf
 returns c addresses deleters p =
     rw (c .turn .ensures, c .before .goes-with .ensures, c .before .before .pick2 .ensures, c .before .before .before .pick .ensures)
-    (swapped-link addresses _ deleters _ p _ 4 (c .before .before .before .before .before .before .before .before .before .before .before .before .before .before .before .pre .0) pred _ _ _ _ (λ r b. r ▸ cond b 18 0 with cond b 2 (r .lost .pending)) _ _ _ refl (bools _ refl refl)
-    (rw (c .before .before .before .before .before .before .before .before .own-in-use .ensures, c .before .before .before .before .before .before .before .before .before .in-use2 .ensures, c .before .before .before .before .before .before .before .before .before .before .in-use .ensures)) (c .before .before .before .before .before .before .swap-link .ensures))
+    (swapped-link addresses _ deleters _ p _ 4
+    (c .before .before .before .before .before .before .before .before .before .before .before .before .before .before .before .pre .0) pred _ _ _ _
+    (λ r b. r ▸ cond b 18 0 with cond b 2 (r .lost .pending)) _ _ _ refl (bools _ refl refl)
+    (rw (
+      c .before .before .before .before .before .before .before .before .own-in-use .ensures,
+      c .before .before .before .before .before .before .before .before .before .in-use2 .ensures,
+      c .before .before .before .before .before .before .before .before .before .before .in-use .ensures,
+    ))
+    (c .before .before .before .before .before .before .swap-link .ensures))
 
 pub row-4-spec : {M : Type 1} → statement M
 row-4-spec =

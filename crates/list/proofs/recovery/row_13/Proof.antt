@@ -27,7 +27,15 @@ accepted-requires c κs = search needs
 
 returns : tie.Need-returns
 returns c addresses links deleters p =
-    rw (c .accepted .ensures, c .before .goes-with .ensures, c .before .before .pick5 .ensures, c .before .before .before .pick4 .ensures, c .before .before .before .before .pick3 .ensures, c .before .before .before .before .before .pick2 .ensures, c .before .before .before .before .before .before .pick .ensures)
+    rw (
+      c .accepted .ensures,
+      c .before .goes-with .ensures,
+      c .before .before .pick5 .ensures,
+      c .before .before .before .pick4 .ensures,
+      c .before .before .before .before .pick3 .ensures,
+      c .before .before .before .before .before .pick2 .ensures,
+      c .before .before .before .before .before .before .pick .ensures,
+    )
     (resumed addresses links deleters _ p _ (c .before .before .before .before .before .before .before .before .before .before .before .before .pre))
 
 pub row-13-spec : {M : Type 1} → statement M

@@ -30,8 +30,16 @@ turn-requires c κs = search needs
 returns : tie.Need-returns
 unfolding row placeOf readOf
 returns c addresses deleters p =
-    rw (c .turn .ensures, c .before .goes-with .ensures, c .before .before .pick2 .ensures, c .before .before .before .pick .ensures, c .before .before .before .before .read-link .ensures, c .before .before .before .before .before .own-in-use .ensures)
-    (read-link addresses _ deleters _ p _ 14 (c .before .before .before .before .before .before .before .before .pre) own _ (λ r target mark. r ▸ cond mark 18 19 with cond mark 2 3) refl (λ target. bools _ refl refl))
+    rw (
+      c .turn .ensures,
+      c .before .goes-with .ensures,
+      c .before .before .pick2 .ensures,
+      c .before .before .before .pick .ensures,
+      c .before .before .before .before .read-link .ensures,
+      c .before .before .before .before .before .own-in-use .ensures,
+    )
+    (read-link addresses _ deleters _ p _ 14 (c .before .before .before .before .before .before .before .before .pre) own _
+    (λ r target mark. r ▸ cond mark 18 19 with cond mark 2 3) refl (λ target. bools _ refl refl))
 
 pub row-14-spec : {M : Type 1} → statement M
 row-14-spec =

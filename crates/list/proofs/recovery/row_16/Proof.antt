@@ -25,7 +25,8 @@ returns : tie.Need-returns
 unfolding row placeOf
 returns c addresses links =
     rw (c .turn .ensures, c .before .goes .ensures)
-    (swapped-deleter addresses links _ _ _ _ 16 (c .before .before .before .before .before .before .before .before .before .pre .0) own _ _ _ _ refl (c .before .before .before .before .before .before .own-in-use .ensures) (c .before .before .before .before .swap-deleter .ensures))
+    (swapped-deleter addresses links _ _ _ _ 16 (c .before .before .before .before .before .before .before .before .before .pre .0) own _ _ _ _ refl
+    (c .before .before .before .before .before .before .own-in-use .ensures) (c .before .before .before .before .swap-deleter .ensures))
 
 pub row-16-spec : {M : Type 1} → statement M
 row-16-spec =

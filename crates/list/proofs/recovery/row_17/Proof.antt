@@ -29,8 +29,16 @@ turn-requires c κs = search needs
 returns : tie.Need-returns
 unfolding row placeOf
 returns c addresses links =
-    rw (c .turn .ensures, c .before .goes-with .ensures, c .before .before .pick2 .ensures, c .before .before .before .pick .ensures, c .before .before .before .before .read-deleter .ensures, c .before .before .before .before .before .own-in-use .ensures)
-    (read-deleter addresses links _ _ _ _ 17 (c .before .before .before .before .before .before .before .before .pre .0) own _ (λ r mine. r ▸ cond mine 18 19 with cond mine 2 3) refl (bools _ refl refl))
+    rw (
+      c .turn .ensures,
+      c .before .goes-with .ensures,
+      c .before .before .pick2 .ensures,
+      c .before .before .before .pick .ensures,
+      c .before .before .before .before .read-deleter .ensures,
+      c .before .before .before .before .before .own-in-use .ensures,
+    )
+    (read-deleter addresses links _ _ _ _ 17 (c .before .before .before .before .before .before .before .before .pre .0) own _
+    (λ r mine. r ▸ cond mine 18 19 with cond mine 2 3) refl (bools _ refl refl))
 
 pub row-17-spec : {M : Type 1} → statement M
 row-17-spec =

@@ -21,7 +21,8 @@ returns : tie.Need-returns
 unfolding row placeOf readOf
 returns c addresses deleters p =
     rw (c .turn .ensures, c .before .from-head .ensures, c .before .before .read-link .ensures)
-    (read-link addresses _ deleters _ p _ 0 (c .before .before .before .before .pre) head _ (λ r target mark. r ▸ pred≔ headNode ▸ curr≔ target ▸ to 1) refl (λ target mark. refl))
+    (read-link addresses _ deleters _ p _ 0 (c .before .before .before .before .pre) head _
+    (λ r target mark. r ▸ pred≔ headNode ▸ curr≔ target ▸ to 1) refl (λ target mark. refl))
 
 pub row-0-spec : {M : Type 1} → statement M
 row-0-spec = tie.close (tie.spec read-link-requires from-head-requires turn-requires returns)

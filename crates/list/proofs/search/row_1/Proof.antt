@@ -45,11 +45,12 @@ judged-requires c κs = search needs
 
 returns : tie.Need-returns
 returns c deleters p =
-    scanned _ _ deleters _ p _ (c .before .before .before .before .before .before .before .before .before .before .before .before .before .before .before .before .before .before .before .before .before .before .before .before .before .pre) _ _ _ _ _ _ _ _ _ _ _ _ _
-    (c .before .before .before .before .before .before .before .before .before .before .before .before .before .before .before .before .before .before .before .before .in-use .ensures)
-    (c .before .before .before .before .before .before .before .before .before .before .before .before .before .before .before .before .before .before .before .read-link .ensures)
-    (c .before .before .before .before .before .before .before .before .before .before .before .before .before .before .before .before .before .before .compare .ensures)
-    (c .before .before .before .before .before .before .before .before .before .before .before .before .before .before .search-ends .ensures)
+    let ended = c .before .before .before .before .before .before .before .before .before .before .before .before .before .before in
+    scanned _ _ deleters _ p _ (ended .before .before .before .before .before .before .before .before .before .before .before .pre) _ _ _ _ _ _ _ _ _ _ _ _ _
+    (ended .before .before .before .before .before .before .in-use .ensures)
+    (ended .before .before .before .before .before .read-link .ensures)
+    (ended .before .before .before .before .compare .ensures)
+    (ended .search-ends .ensures)
     (c .before .before .before .before .before .before .before .before .before .before .before .pick .ensures)
     (c .before .before .before .before .before .before .before .before .before .before .pick2 .ensures)
     (c .before .before .before .before .before .before .before .before .before .pick3 .ensures)

@@ -20,7 +20,8 @@ in-use-requires-3 c κs = search needs
 
 swap-link-requires : tie.Need-swap-link-requires
 swap-link-requires c κs =
-    three-small _ (c .before .before .before .before .before .before .before .before .pre .1) _ _ (c .before .before .before .in-use .result) (c .before .before .in-use2 .result) _
+    three-small _ (c .before .before .before .before .before .before .before .before .pre .1) _ _ (c .before .before .before .in-use .result)
+    (c .before .before .in-use2 .result) _
     (plain _ _ _ (c .before .before .in-use2 .ensures))
     (plain _ _ _ (c .before .in-use3 .ensures))
 
@@ -43,8 +44,15 @@ returns : tie.Need-returns
 unfolding row placeOf
 returns c addresses deleters p =
     rw (c .turn .ensures, c .before .either .ensures, c .before .before .goes .ensures, c .before .before .before .unlinked .ensures)
-    (swapped-link addresses _ deleters _ p _ 2 (c .before .before .before .before .before .before .before .before .before .before .before .before .before .before .before .pre .0) pred _ _ _ _ (λ r b. cond b (r ▸ curr≔ (r .lost .succ) ▸ to 1) (r ▸ to 0)) _ _ _ refl (λ b. refl)
-    (rw (c .before .before .before .before .before .before .before .before .in-use3 .ensures, c .before .before .before .before .before .before .before .before .before .in-use2 .ensures, c .before .before .before .before .before .before .before .before .before .before .in-use .ensures)) (c .before .before .before .before .before .before .swap-link .ensures))
+    (swapped-link addresses _ deleters _ p _ 2
+    (c .before .before .before .before .before .before .before .before .before .before .before .before .before .before .before .pre .0) pred _ _ _ _
+    (λ r b. cond b (r ▸ curr≔ (r .lost .succ) ▸ to 1) (r ▸ to 0)) _ _ _ refl (λ b. refl)
+    (rw (
+      c .before .before .before .before .before .before .before .before .in-use3 .ensures,
+      c .before .before .before .before .before .before .before .before .before .in-use2 .ensures,
+      c .before .before .before .before .before .before .before .before .before .before .in-use .ensures,
+    ))
+    (c .before .before .before .before .before .before .swap-link .ensures))
 
 pub row-2-spec : {M : Type 1} → statement M
 row-2-spec =

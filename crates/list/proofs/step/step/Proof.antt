@@ -8,8 +8,10 @@ in-range-requires : tie.Need-in-range-requires
 in-range-requires c κs = search needs
 
 row-requires : tie.Need-row-requires
-row-requires c κs =
-    (in-range _ _ (c .before .before .before .in-range .ensures) (c .before .before .if1 .taken), c .before .before .before .before .before .before .before .pre)
+row-requires c κs = (
+  in-range _ _ (c .before .before .before .in-range .ensures) (c .before .before .if1 .taken),
+  c .before .before .before .before .before .before .before .pre,
+)
 
 same-length : tie.Need-same-length
 same-length c = search needs
