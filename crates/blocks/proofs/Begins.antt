@@ -4,7 +4,6 @@ use mathlib.Core.List.{List, _∷_, _++_}
 use mathlib.Core.Path.{_≡_, refl, ap, sym, _∙_, subst}
 use mathlib.Core.Bool.{Bool, true, false, cond, _&&_}
 use native.Mathlib.Omega.{arith}
-use native.Mathlib.Nat.{zero-add}
 use borrow.Author.Tests.{le-leb, leb-true, ltb-false}
 use lib.Dec.{leb, ltb}
 use lib.ListN.{length, drop, replicate, length-replicate}
@@ -23,7 +22,8 @@ use Rattle.schedule.specs.Numbers.{Read, got, stops, _then_, readNumber}
 use Rattle.schedule.specs.Encoding.{eventsOf}
 use Rattle.schedule.specs.Reading.{Reading, file, badHeader, readHeader, readFile}
 use Rattle.schedule.specs.Cursors.{start, placeIn, headerRead, headerAt}
-use Rattle.lent.specs.Fresh.{TablesLeft, tablesLeft, freshFits, freshTables, over, sizesOf}
+use Rattle.record.specs.Over.{over}
+use Rattle.lent.specs.Fresh.{TablesLeft, tablesLeft, freshFits, freshTables, sizesOf}
 use Rattle.lent.specs.declared.Made.{Made}
 use Rattle.lent.specs.declared.Made.the-variants.{Fresh, Refused}
 use Rattle.files.specs.Comes.{comes, ends}
@@ -33,7 +33,7 @@ use Rattle.text.specs.Text.{line}
 use Rattle.run.specs.declared.Phase.the-variants.{Acting}
 use Rattle.run.specs.Output.{played, output}
 use Rattle.run.specs.Pieces.{World, world, runOf, tableOf, freshRow, refusing, startOf, begins}
-use Rattle.blocks.specs.ToCome.{playedFrom, toCome}
+use Rattle.blocks.specs.ToCome.{toCome}
 use Rattle.blocks.proofs.Comes.{Numbered, acts}
 use Rattle.blocks.proofs.Longer.{Sound, played-longer}
 
@@ -161,10 +161,10 @@ output-bad : (s : List ℕ) (n : ℕ) → readFile s ≡ badHeader n → output 
 unfolding output
 output-bad s n e = rw (e, output)
 
-output-file : (s : List ℕ) (h : Header) (x : Reading) → readFile s ≡ file h x
-    → output s ≡ playedFrom 0 (fresh (h .nodes) (h .processes)) (eventsOf (x .items)) (x .ended)
-unfolding output played playedFrom
-output-file s h x e = rw (e, output, zero-add)
+pub output-file : (s : List ℕ) (h : Header) (x : Reading) → readFile s ≡ file h x
+    → output s ≡ played 0 (fresh (h .nodes) (h .processes)) (eventsOf (x .items)) (x .ended)
+unfolding output
+output-file s h x e = rw (e, output)
 
 come-refusing : (s a l d : List ℕ) (n : ℕ) → toCome s (world a l d (refusing n)) ≡ line 0 (outcome.Refused n)
 unfolding toCome
@@ -198,10 +198,10 @@ module _ (s a l d : List ℕ) (ha : 4096 ≤ length a) (hl : 4096 ≤ length l) 
       (σ .memory .deleters)) d) (replicate (64 - h .processes) freshRecord) σ
   table-longer = ap (λ (row : List Record). stateOf (σ .nodes) (σ .processes) (tableOf begun .memory) row) row-longer
 
-  come-fresh : toCome s begun ≡ playedFrom 0 σ (comes s next) (ends s next)
+  come-fresh : toCome s begun ≡ played 0 σ (comes s next) (ends s next)
   unfolding toCome
   come-fresh =
-      ap (λ (τ : State). playedFrom 0 τ (comes s next) (ends s next)) table-longer
+      ap (λ (τ : State). played 0 τ (comes s next) (ends s next)) table-longer
       ∙ played-longer (drop (length (σ .memory .addresses)) a) (drop (length (σ .memory .links)) l) (drop (length (σ .memory .deleters)) d) (replicate
       (64 - h .processes) freshRecord) 0 σ (comes s next) (ends s next) (fresh-sound (h .nodes) (h .processes) fit)
 
@@ -212,6 +212,6 @@ begin-comes s a l d ha hl hd = by (headerAt s start) refl (header-has s start) (
     by (header.Got h next) e has t =
         ap (toCome s) (begins-fresh s a l d ha hl hd h next (has .2) e)
         ∙ (come-fresh s a l d ha hl hd h next (has .2)
-        ∙ ((λ i. playedFrom 0 (fresh (h .nodes) (h .processes)) (t .2 i) (t .3 i)) ∙ sym (output-file s h (t .0) (t .1))))
+        ∙ ((λ i. played 0 (fresh (h .nodes) (h .processes)) (t .2 i) (t .3 i)) ∙ sym (output-file s h (t .0) (t .1))))
     by (header.Refused n) e has t =
         ap (toCome s) (begins-refused s a l d n e) ∙ (come-refusing s a l d n ∙ sym (output-bad s n (t .0)))

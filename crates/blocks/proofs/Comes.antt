@@ -2,10 +2,11 @@
 use Prim.Native.Nat.{ℕ, zero, suc, _+_, _-_, _<_, _≤_}
 use mathlib.Core.List.{List, [], _∷_, _++_, map, append-assoc, append-nil}
 use mathlib.Core.Path.{_≡_, refl, ap, sym, _∙_, subst}
-use mathlib.Core.Bool.{Bool, true, false}
+use mathlib.Core.Bool.{Bool, true, false, cond}
 use native.Mathlib.Omega.{arith}
 use borrow.Author.Tests.{lt-ltb, ne-eqb}
 use lib.ListN.{length, length-append}
+use Rattle.record.specs.Record.{address}
 use Rattle.record.specs.declared.Node.{Node}
 use Rattle.record.specs.declared.Event.{Event}
 use Rattle.record.specs.declared.Outcome.the-variants as outcome
@@ -21,11 +22,13 @@ use Rattle.text.specs.Text.{line, decimal, keysWord, keysLine, addressesText, s
 use Rattle.text.proofs.Lengths.{line-some}
 use Rattle.run.specs.declared.Phase.{Phase}
 use Rattle.run.specs.declared.Phase.the-variants.{Refusing, Acting, Walking, Over}
-use Rattle.run.specs.Output.{lines, stopLine}
+use Rattle.run.specs.Output.{lines, stopLine, played}
 use Rattle.run.specs.Filling.{Next, piece, nothing}
+use Rattle.chain.specs.Walking.{walkedFrom}
+use Rattle.chain.specs.declared.Walked.the-variants.{Onto, Ends}
 use Rattle.run.specs.Pieces.{World, memoryOf, tableOf, inPhase, nextNumber, wentOn, toWalk, eventNext, addressNext, nextPiece}
 use Rattle.run.proofs.Steps.{acting-piece, got-piece, refusal-piece, over-nothing, walking-piece}
-use Rattle.blocks.specs.ToCome.{playedFrom, toCome}
+use Rattle.blocks.specs.ToCome.{toCome}
 use Rattle.blocks.proofs.Pieces.{Gives}
 
 -- the number of each event to come fits 32 bits
@@ -54,7 +57,7 @@ unfolding toCome
 come-refusing file w n e = rw e
 
 come-acting : (file : List ℕ) (w : World) → w .run .phase ≡ Acting
-    → toCome file w ≡ playedFrom (w .run .number) (tableOf w) (comes file (w .run .cursor)) (ends file (w .run .cursor))
+    → toCome file w ≡ played (w .run .number) (tableOf w) (comes file (w .run .cursor)) (ends file (w .run .cursor))
 unfolding toCome
 come-acting file w e = rw e
 
@@ -70,20 +73,20 @@ come-over file w e = rw e
 -- ---- the lines of events
 
 played-event : (number : ℕ) (σ : State) (e : Event) (es : List Event) (ended : ℕ)
-    → playedFrom number σ (e ∷ es) ended ≡ line number (event σ e .outcome) ++ playedFrom (number + 1) (event σ e .after) es ended
-unfolding playedFrom lines outcomes runs
+    → played number σ (e ∷ es) ended ≡ line number (event σ e .outcome) ++ played (number + 1) (event σ e .after) es ended
+unfolding played lines outcomes runs
 played-event number σ e es ended =
     let n : number + suc (length es) ≡ number + 1 + length es = omega arith in
     append-assoc (line number (event σ e .outcome)) (lines (number + 1) (outcomes (event σ e .after) es)) _
     ∙ ap (λ (k : ℕ). line number (event σ e .outcome) ++ (lines (number + 1) (outcomes (event σ e .after) es) ++ (stopLine k ended ++ keysLine
     (chainAddresses (runs (event σ e .after) es .memory))))) n
 
-played-end : (number : ℕ) (σ : State) → playedFrom number σ [] 0 ≡ keysLine (chainAddresses (σ .memory))
-unfolding playedFrom lines outcomes runs stopLine
+played-end : (number : ℕ) (σ : State) → played number σ [] 0 ≡ keysLine (chainAddresses (σ .memory))
+unfolding played lines outcomes runs stopLine
 played-end number σ = refl
 
-played-stop : (number : ℕ) (σ : State) (n : ℕ) → 4 ≤ n → playedFrom number σ [] n ≡ line number (outcome.Refused n) ++ keysLine (chainAddresses (σ .memory))
-unfolding playedFrom lines outcomes runs stopLine
+played-stop : (number : ℕ) (σ : State) (n : ℕ) → 4 ≤ n → played number σ [] n ≡ line number (outcome.Refused n) ++ keysLine (chainAddresses (σ .memory))
+unfolding played lines outcomes runs stopLine
 played-stop number σ n h =
     let k : number + 0 ≡ number = omega arith in
     rw (ne-eqb n 0 (λ z. omega arith), k)
@@ -116,10 +119,10 @@ module _ (file : List ℕ) (w : World) (acting : w .run .phase ≡ Acting) (numb
       subst (Told file w) (sym (got-piece file w e next h)) (
         (λ z. omega (arith, n)),
         come-acting file w acting
-            ∙ ((λ i. playedFrom (w .run .number) (tableOf w) (t .0 i) (t .1 i))
+            ∙ ((λ i. played (w .run .number) (tableOf w) (t .0 i) (t .1 i))
             ∙ (played-event (w .run .number) (tableOf w) e (comes file next) (ends file next)
             ∙ ap (λ (l : List ℕ). line (w .run .number) (x .outcome) ++ l)
-            (ap (λ (k : ℕ). playedFrom k σ (comes file next) (ends file next)) (sym n) ∙ sym (come-acting file (wentOn w next σ) acting)))),
+            (ap (λ (k : ℕ). played k σ (comes file next) (ends file next)) (sym n) ∙ sym (come-acting file (wentOn w next σ) acting)))),
         line-some (w .run .number) (x .outcome),
       )
   by-read read.End h =
@@ -127,7 +130,7 @@ module _ (file : List ℕ) (w : World) (acting : w .run .phase ≡ Acting) (numb
       subst (Told file w) (sym (end-next file w h)) (
         (λ z. absurd (acts _ z)),
         come-acting file w acting
-            ∙ ((λ i. playedFrom (w .run .number) (tableOf w) (t .0 i) (t .1 i)) ∙ (played-end (w .run .number) (tableOf w) ∙ keys-walk file w)),
+            ∙ ((λ i. played (w .run .number) (tableOf w) (t .0 i) (t .1 i)) ∙ (played-end (w .run .number) (tableOf w) ∙ keys-walk file w)),
         omega arith,
       )
   by-read (read.Refused n) h =
@@ -136,7 +139,7 @@ module _ (file : List ℕ) (w : World) (acting : w .run .phase ≡ Acting) (numb
       subst (Told file w) (sym (refused-next file w n h)) (
         (λ z. absurd (acts _ z)),
         come-acting file w acting
-            ∙ ((λ i. playedFrom (w .run .number) (tableOf w) (t .0 i) (t .1 i))
+            ∙ ((λ i. played (w .run .number) (tableOf w) (t .0 i) (t .1 i))
             ∙ (played-stop (w .run .number) (tableOf w) n (t .2 .0)
             ∙ (ap (λ (l : List ℕ). stopped ++ l) (keys-walk file w) ∙ sym (append-assoc stopped keysWord (toCome file (toWalk w)))))),
         simp length-append (omega (arith, line-some (w .run .number) (outcome.Refused n))),
@@ -154,19 +157,19 @@ module _ (file : List ℕ) (w : World) where
   Walked whole nothing = whole ≡ []
 
   walks : (n : Node) (steps : ℕ) → Walked (text n steps) (addressNext w n steps)
-  unfolding addressNext walk toCome addressesText
+  unfolding addressNext walkedFrom walk toCome addressesText
   walks n zero = ((λ z. absurd (acts _ z)), refl, omega arith)
   walks n (suc steps) = by (goesOn (memoryOf w) n (targetOf (linkAt (memoryOf w) n)))
     where
       onto : Node
       onto = targetOf (linkAt (memoryOf w) n)
 
-      by : (goes : Bool) → Walked (addressesText (map (λ n. addressAt (memoryOf w) n) (elim goes [
-        | true ↦ onto ∷ walk steps
-            (memoryOf w) onto
-        | false ↦ []
-      ])) ++ (newline ∷ []))
-          (elim goes [ true ↦ piece (space ∷ decimal (addressAt (memoryOf w) onto)) (inPhase (Walking onto steps) w) | false ↦ piece (newline ∷ []) (inPhase Over w) ])
+      by : (goes : Bool) → Walked
+          (addressesText (map (λ n. addressAt (memoryOf w) n) (elim goes [ true ↦ onto ∷ walk steps (memoryOf w) onto | false ↦ [] ])) ++ (newline ∷ []))
+          (elim (cond goes (Onto onto (address (addressAt (memoryOf w) onto))) Ends) [
+            | Onto onto a ↦ piece (space ∷ decimal (a .0)) (inPhase (Walking onto steps) w)
+            | Ends ↦ piece (newline ∷ []) (inPhase Over w)
+          ])
       by true = (
         (λ z. absurd (acts _ z)),
         append-assoc (space ∷ decimal (addressAt (memoryOf w) onto)) (addressesText (map (λ n. addressAt (memoryOf w) n) (walk steps (memoryOf w) onto))) (newline ∷ []),

@@ -2,13 +2,12 @@
 -- are the blocks that the code fills. Rests on Theorem and on the files' laws.
 use Prim.Native.Nat.{ℕ, _≤_}
 use mathlib.Core.List.{List, []}
-use mathlib.Core.Path.{_≡_, ap, _∙_}
+use mathlib.Core.Path.{_≡_, _∙_}
 use lib.ListN.{length}
-use Rattle.record.specs.declared.Outcome.the-variants.{Refused}
 use Rattle.table.specs.Events.{fresh}
 use Rattle.schedule.specs.declared.Header.{Header}
 use Rattle.schedule.specs.Encoding.{Item, eventsOf}
-use Rattle.schedule.specs.Reading.{Reading, reading, File, badHeader, file, readFile}
+use Rattle.schedule.specs.Reading.{Reading, reading, file}
 use Rattle.files.specs.Stands.{Encodes, Holds}
 use Rattle.files.proofs.Files.{says-read}
 use Rattle.files.proofs.Accepted.{encoding-read}
@@ -16,34 +15,23 @@ use Rattle.text.specs.Text.{line}
 use Rattle.run.specs.Output.{played, output}
 use Rattle.run.specs.Pieces.{begins}
 use Rattle.blocks.specs.ToCome.{written}
+use Rattle.blocks.proofs.Begins.{output-file}
 use Rattle.blocks.proofs.Theorem.{blocks-are-output}
-
--- the output, by what the file reads as
-abbrev outputOf : File → List ℕ
-outputOf f =
-    elim f [
-      | badHeader n ↦ line 0 (Refused n)
-      | file h x ↦ played (fresh (h .nodes) (h .processes)) (eventsOf (x .items)) (x .ended)
-    ]
-
-output-is : (s : List ℕ) (f : File) → readFile s ≡ f → output s ≡ outputOf f
-unfolding output
-output-is s f e = ap (λ (g : File). outputOf g) e
 
 -- of an encoding: its events, worked to the end
 pub lines-of-encoding : (s : List ℕ) (h : Header) (items : List Item) → Encodes s h items
-    → output s ≡ played (fresh (h .nodes) (h .processes)) (eventsOf items) 0
-lines-of-encoding s h items e = output-is s (file h (reading items [] 0)) (encoding-read s h items e)
+    → output s ≡ played 0 (fresh (h .nodes) (h .processes)) (eventsOf items) 0
+lines-of-encoding s h items e = output-file s h (reading items [] 0) (encoding-read s h items e)
 
 -- of bytes that hold a header and items, and then their end or what is refused: the events before it, then the refusal
 pub lines-of-file : (s : List ℕ) (h : Header) (x : Reading) → Holds s h x
-    → output s ≡ played (fresh (h .nodes) (h .processes)) (eventsOf (x .items)) (x .ended)
-lines-of-file s h x holds = output-is s (file h x) (says-read s (file h x) holds)
+    → output s ≡ played 0 (fresh (h .nodes) (h .processes)) (eventsOf (x .items)) (x .ended)
+lines-of-file s h x holds = output-file s h x (says-read s (file h x) holds)
 
 -- the blocks that the code fills are these lines
 pub blocks-of-file : (s : List ℕ) (h : Header) (x : Reading) → Holds s h x
     → (addresses links deleters : List ℕ) → 4096 ≤ length addresses → 4096 ≤ length links → 4096 ≤ length deleters
     → (blocks : ℕ → List ℕ) → ((i : ℕ) → 64 ≤ length (blocks i)) → (turns : ℕ) → length (output s) ≤ turns
-    → written turns s blocks (begins s addresses links deleters) ≡ played (fresh (h .nodes) (h .processes)) (eventsOf (x .items)) (x .ended)
+    → written turns s blocks (begins s addresses links deleters) ≡ played 0 (fresh (h .nodes) (h .processes)) (eventsOf (x .items)) (x .ended)
 blocks-of-file s h x holds a l d ha hl hd blocks room turns enough =
     blocks-are-output s a l d ha hl hd blocks room turns enough ∙ lines-of-file s h x holds

@@ -22,8 +22,7 @@ use Rattle.table.proofs.Tests.{if-eq, and-left, and-right}
 use Rattle.table.proofs.Meets.{step-meets, act-meets, event-meets}
 use Rattle.table.proofs.LawsSizes.{Agree, Covers, longer, longer-agrees, Holds, holds-stays, sizes-stay, longerState, beyond-untouched}
 use Rattle.text.specs.Text.{keysLine}
-use Rattle.run.specs.Output.{lines, stopLine}
-use Rattle.blocks.specs.ToCome.{playedFrom}
+use Rattle.run.specs.Output.{lines, stopLine, played}
 
 -- ---- the count stays within the nodes
 
@@ -146,8 +145,8 @@ module _ (m m′ : Memory) (agree : Agree m m′) where
 -- ---- the same lines and the same last line
 
 pub played-longer : (a l d : List ℕ) (rs : List Record) (number : ℕ) (σ : State) (es : List Event) (ended : ℕ) → Sound σ
-    → playedFrom number (longerState a l d rs σ) es ended ≡ playedFrom number σ es ended
-unfolding playedFrom
+    → played number (longerState a l d rs σ) es ended ≡ played number σ es ended
+unfolding played
 played-longer a l d rs number σ es ended s =
     let t = runs-longer a l d rs es σ s in
     let h = t .1 .holds in

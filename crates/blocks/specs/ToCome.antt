@@ -2,29 +2,22 @@
 use mathlib.Core.List.{List, [], _∷_, _++_, map}
 use Prim.Native.Nat.{ℕ, zero, suc, _+_}
 use lib.ListN.{length, take}
-use Rattle.record.specs.declared.Event.{Event}
 use Rattle.record.specs.declared.Outcome.the-variants.{Refused}
 use Rattle.table.specs.Words.{addressAt}
 use Rattle.table.specs.Chain.{walk, chainAddresses}
-use Rattle.table.specs.Events.{State, runs, outcomes}
+use Rattle.table.specs.Events.{runs}
 use Rattle.files.specs.Comes.{comes, ends}
 use Rattle.text.specs.Text.{line, keysLine, addressesText, newline}
 use Rattle.run.specs.declared.Phase.the-variants.{Refusing, Acting, Walking, Over}
-use Rattle.run.specs.Output.{lines, stopLine}
+use Rattle.run.specs.Output.{played}
 use Rattle.run.specs.Filling.{Stop}
 use Rattle.run.specs.Pieces.{World, memoryOf, tableOf, fills}
-
--- the lines of events, numbered on from a number, and the last line
-unfoldable pub playedFrom : (number : ℕ) → State → List Event → (ended : ℕ) → List ℕ
-playedFrom number σ events ended =
-    lines number (outcomes σ events)
-    ++ (stopLine (number + length events) ended ++ keysLine (chainAddresses (runs σ events .memory)))
 
 unfoldable pub toCome : (file : List ℕ) → World → List ℕ
 toCome file w =
     elim (w .run .phase) [
       | Refusing n ↦ line 0 (Refused n)
-      | Acting ↦ playedFrom (w .run .number) (tableOf w) (comes file (w .run .cursor)) (ends file (w .run .cursor))
+      | Acting ↦ played (w .run .number) (tableOf w) (comes file (w .run .cursor)) (ends file (w .run .cursor))
       | Walking n steps ↦ addressesText (map (λ n. addressAt (memoryOf w) n) (walk steps (memoryOf w) n)) ++ (newline ∷ [])
       | Over ↦ []
     ]

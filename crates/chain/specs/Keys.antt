@@ -1,11 +1,12 @@
 -- What reading the chain's addresses into a lent buffer leaves: "the address of every node on the chain between head and tail, rising".
 -- Rests on the table's `chain` and on Walking.
 use mathlib.Core.Bool.{cond}
-use mathlib.Core.List.{List, [], _∷_, _++_}
+use mathlib.Core.List.{List, [], _∷_}
 use mathlib.Core.Option.{Option, none, some}
 use Prim.Native.Nat.{ℕ}
-use lib.ListN.{length, take, drop}
+use lib.ListN.{length, take}
 use Rattle.record.specs.Record.{headNode}
+use Rattle.record.specs.Over.{over}
 use Rattle.record.specs.declared.Node.{Node}
 use Rattle.table.specs.Words.{Memory}
 use Rattle.table.specs.Events.{tablesFit}
@@ -39,7 +40,7 @@ lastOf n (x ∷ xs) = lastOf x xs
 unfoldable pub readKeys : Memory → (buffer : List ℕ) → Left
 readKeys m buffer =
     let keys = take (length buffer) (chainAddresses m) in
-    left (keys ++ drop (length keys) buffer)
+    left (over keys buffer)
     (keysFrom (some (length keys, onwardFrom m (lastOf headNode (take (length buffer) (chain m))))))
 
 -- "7 | sizes outside the limits, a lent table too short, count below 2 or above the nodes | nothing changed"

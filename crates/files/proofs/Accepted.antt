@@ -13,7 +13,8 @@ use Rattle.schedule.specs.Numbers.{got}
 use Rattle.schedule.specs.Encoding.{Item, eventsOf, itemBytes, itemsBytes, headerBytes, fileBytes}
 use Rattle.schedule.specs.Reading.{Reading, reading, readHeader, item, refuses, nextItem, badHeader, file, readFile}
 use Rattle.schedule.specs.Cursors.{headerAt}
-use Rattle.files.specs.Comes.{readAll, handed, handedOut}
+use Rattle.schedule.specs.Reading.{readAll}
+use Rattle.files.specs.Comes.{handed, handedOut}
 use Rattle.files.specs.Fits.{Each, Bytes, HeaderFits, ItemFits}
 use Rattle.files.specs.Refusals.{Refused, HeaderRefused}
 use Rattle.files.specs.Stands.{Holds, Encodes}

@@ -22,7 +22,8 @@ use Rattle.schedule.specs.Numbers.{Read, got, stops}
 use Rattle.schedule.specs.Encoding.{Item, single, burst, eventsOf}
 use Rattle.schedule.specs.Reading.{Reading, readHeader, NextItem, end, item, refuses, nextItem, File, file, badHeader, readFile}
 use Rattle.schedule.specs.Cursors.{cursorIn, placeIn, headerRead, headerAt, eventRead, eventAt}
-use Rattle.files.specs.Comes.{readAll, comes, ends, HandedOut, handed, firstThen, handedOut}
+use Rattle.schedule.specs.Reading.{readAll}
+use Rattle.files.specs.Comes.{comes, ends, HandedOut, handed, firstThen, handedOut}
 use Rattle.files.proofs.Cases.{if-lt}
 use Rattle.files.proofs.Follows.{Follows, CountFits, Refusal, Next, next, TakesHeader, header-takes}
 use Rattle.files.proofs.ReadAll.{read-end, read-item, read-refused}

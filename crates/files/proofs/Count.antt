@@ -8,7 +8,8 @@ use Rattle.record.specs.declared.Event.the-variants.{Step}
 use Rattle.schedule.specs.declared.Cursor.{Cursor}
 use Rattle.schedule.specs.Encoding.{Item, single, burst, eventsOf}
 use Rattle.schedule.specs.Reading.{Reading, NextItem, end, item, refuses, nextItem}
-use Rattle.files.specs.Comes.{readAll, comes}
+use Rattle.schedule.specs.Reading.{readAll}
+use Rattle.files.specs.Comes.{comes}
 use Rattle.files.proofs.Follows.{Next, next, follows-shorter, CountFits}
 use Rattle.files.proofs.ReadAll.{read-end, read-item, read-refused}
 

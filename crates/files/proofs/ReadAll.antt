@@ -6,7 +6,7 @@ use native.Mathlib.Omega.{arith}
 use lib.ListN.{length}
 use Rattle.schedule.specs.Encoding.{Item}
 use Rattle.schedule.specs.Reading.{Reading, reading, before, readItems, NextItem, end, item, refuses, nextItem}
-use Rattle.files.specs.Comes.{readAll}
+use Rattle.schedule.specs.Reading.{readAll}
 use Rattle.files.proofs.Follows.{follows-shorter, Next, next}
 
 -- by what stands next, where what is left after an item is read by `again`

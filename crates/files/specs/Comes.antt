@@ -8,12 +8,8 @@ use Rattle.record.specs.declared.Event.the-variants.{Step}
 use Rattle.schedule.specs.declared.Cursor.{Cursor}
 use Rattle.schedule.specs.declared.EventRead.the-variants as event
 use Rattle.schedule.specs.Encoding.{eventsOf}
-use Rattle.schedule.specs.Reading.{Reading, readItems}
+use Rattle.schedule.specs.Reading.{readAll}
 use Rattle.schedule.specs.Cursors.{eventAt}
-
--- what stands after a header, read to its end or to a refusal
-unfoldable pub readAll : List ℕ → Reading
-readAll s = readItems (suc (length s)) s
 
 -- the events to come: the steps left of a burst, then the events of the items after the cursor
 unfoldable pub comes : (file : List ℕ) → Cursor → List Event

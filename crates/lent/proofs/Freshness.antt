@@ -16,7 +16,8 @@ use Rattle.table.proofs.Fitting.{room-of}
 use Rattle.words.specs.declared.Sizes.{Sizes}
 use Rattle.lent.specs.declared.Made.{Made}
 use Rattle.lent.specs.declared.Made.the-variants.{Refused, Fresh}
-use Rattle.lent.specs.Fresh.{over, sizesOf, freshFits, TablesLeft, tablesLeft, freshTables, listLeft, freshList}
+use Rattle.record.specs.Over.{over}
+use Rattle.lent.specs.Fresh.{sizesOf, freshFits, TablesLeft, tablesLeft, freshTables, listLeft, freshList}
 
 pub links-laid : (l : List ℕ) (nodes : ℕ) → 2 ≤ nodes → set (set (over (replicate nodes 0) l) 0 2) 1 2 ≡ over (freshMemory nodes .links) l
 unfolding freshMemory

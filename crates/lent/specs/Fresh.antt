@@ -1,10 +1,11 @@
 -- Lent tables and a lent row of records made fresh, or refused. Rests on the place table's fresh state.
 use mathlib.Core.Bool.{Bool, cond, _&&_}
-use mathlib.Core.List.{List, _++_}
+use mathlib.Core.List.{List}
 use mathlib.Core.Option.{Option, none, some}
 use Prim.Native.Nat.{ℕ}
 use lib.Dec.{leb}
-use lib.ListN.{length, drop}
+use lib.ListN.{length}
+use Rattle.record.specs.Over.{over}
 use Rattle.record.specs.declared.Record.{Record}
 use Rattle.table.specs.Words.{memory}
 use Rattle.table.specs.Events.{State, fresh, tablesFit}
@@ -17,10 +18,6 @@ use Rattle.lent.specs.declared.Made.the-variants.{Refused, Fresh}
 abbrev pub madeOf : Option Sizes → Made
 madeOf none = Refused 7
 madeOf (some sizes) = Fresh sizes
-
--- new words or records laid over the lent ones, from the first on. "The caller's table words beyond the stated sizes are never touched."
-abbrev pub over : {A : Type 0} → List A → List A → List A
-over new lent = new ++ drop (length new) lent
 
 -- the stated sizes of a state, and its count
 abbrev pub sizesOf : State → Sizes

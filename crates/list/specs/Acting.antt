@@ -3,9 +3,9 @@ use mathlib.Core.List.{List}
 use Prim.Native.Nat.{ℕ}
 use Rattle.record.specs.declared.Record.{Record}
 use Rattle.record.specs.declared.Event.{Event}
-use Rattle.table.specs.Words.{memory}
 use Rattle.table.specs.Events.{act}
 use Rattle.table.specs.Events as table
+use Rattle.words.specs.Lent.{lentMemory}
 use Rattle.words.specs.declared.Sizes.{Sizes}
 use Rattle.list.specs.declared.Acted.{Acted}
 
@@ -32,4 +32,4 @@ leftOf sizes d =
 
 unfoldable pub actOn : List ℕ → List ℕ → List ℕ → Sizes → Record → Event → Left
 actOn addresses links deleters sizes r e =
-    leftOf sizes (act (sizes .nodes) (sizes .processes) (memory addresses links deleters (sizes .count)) r e)
+    leftOf sizes (act (sizes .nodes) (sizes .processes) (lentMemory addresses links deleters sizes) r e)

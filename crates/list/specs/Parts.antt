@@ -11,11 +11,11 @@ use Rattle.record.specs.declared.Process.{Process}
 use Rattle.record.specs.declared.Record.{Record}
 use Rattle.record.specs.declared.Outcome.{Outcome}
 use Rattle.record.specs.declared.Outcome.the-variants.{Refused, Accepted}
-use Rattle.table.specs.Words.{memory, targetOf, isMarked, equal}
+use Rattle.table.specs.Words.{targetOf, isMarked, equal}
 use Rattle.table.specs.Places.{searchEnds}
 use Rattle.table.specs.Steps.{inRange, recordAfter}
 use Rattle.table.specs.Events.{stepOf}
-use Rattle.words.specs.Lent.{usedBelow, Swapped, swapped, swapOf}
+use Rattle.words.specs.Lent.{lentMemory, usedBelow, Swapped, swapped, swapOf}
 use Rattle.words.specs.declared.Sizes.{Sizes}
 use Rattle.list.specs.declared.Acted.{Acted}
 use Rattle.list.specs.declared.access.Read.{Read}
@@ -70,4 +70,4 @@ EndsAt recovering at-own inserts same pending goal =
 
 -- what the place table's step leaves, table by table
 unfoldable pub stepped : List ℕ → List ℕ → List ℕ → Sizes → Process → Record → Left
-stepped addresses links deleters sizes p r = leftOf sizes (stepOf (memory addresses links deleters (sizes .count)) p r)
+stepped addresses links deleters sizes p r = leftOf sizes (stepOf (lentMemory addresses links deleters sizes) p r)

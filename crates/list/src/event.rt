@@ -3,8 +3,8 @@ ghost use mathlib.Core.Path.{_≡_};
 ghost use Prim.Native.Nat.{_<_};
 ghost use Rattle.record.specs.Event.{processOf};
 ghost use Rattle.record.specs.declared.Event.the-variants as of;
-ghost use Rattle.table.specs.Words.{memory};
 ghost use Rattle.table.specs.Events.{does, statusNeeded};
+ghost use Rattle.words.specs.Lent.{lentMemory};
 ghost use Rattle.list.specs.Acting.{left, leftOf};
 ghost use Rattle.list.specs.Parts.{Within};
 use crate::Acted;
@@ -65,7 +65,7 @@ fn insert(
 ) -> Acted
     requires { ⌜ Within sizes ⌝ }
     ensures { λ r. ⌜ left (now (addresses .exit)) (now (links .exit)) (now (deleters .exit)) r ≡
-        leftOf sizes (does (sizes .nodes) (memory (now (addresses .entry)) (now (links .entry)) (now (deleters .entry)) (sizes .count)) old (of.Insert p address)) ⌝ }
+        leftOf sizes (does (sizes .nodes) (lentMemory (now (addresses .entry)) (now (links .entry)) (now (deleters .entry)) sizes) old (of.Insert p address)) ⌝ }
 {
     let taken = Node(sizes.count);
     let given = Sizes {
@@ -95,7 +95,7 @@ pub(crate) fn does(
     requires { ⌜ Within sizes ⌝ }
     requires { ⌜ processOf event .0 < 64 ⌝ }
     ensures { λ r. ⌜ left (now (addresses .exit)) (now (links .exit)) (now (deleters .exit)) r ≡
-        leftOf sizes (does (sizes .nodes) (memory (now (addresses .entry)) (now (links .entry)) (now (deleters .entry)) (sizes .count)) old event) ⌝ }
+        leftOf sizes (does (sizes .nodes) (lentMemory (now (addresses .entry)) (now (links .entry)) (now (deleters .entry)) sizes) old event) ⌝ }
 {
     match event {
         Event::Insert(p, address) => insert(addresses, links, deleters, sizes, old, p, address),

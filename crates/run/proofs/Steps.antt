@@ -9,15 +9,14 @@ use borrow.Author.Tests.{lt-leb, leb-true, leb-false, ltb-true, ne-eqb}
 use lib.Dec.{leb, ltb, eqb}
 use lib.ListN.{length, length-append, getD, set}
 use denote.Enum.Declared.{tagOf}
-use Rattle.record.specs.Record.{freshRecord, process, address}
+use Rattle.record.specs.Record.{freshRecord, process}
 use Rattle.record.specs.Event.{processOf}
 use Rattle.record.specs.declared.Node.{Node}
 use Rattle.record.specs.declared.Address.{Address}
 use Rattle.record.specs.declared.Event.{Event}
 use Rattle.record.specs.declared.Outcome.the-variants as outcome
-use Rattle.table.specs.Words.{Memory, memory, linkAt, addressAt, targetOf}
+use Rattle.table.specs.Words.{Memory, memory, linkAt, addressAt}
 use Rattle.table.specs.Events.{State, Acted, act, acted, sizesFit, tablesFit, event, stored, recordIn, Leaves}
-use Rattle.table.specs.Chain.{goesOn}
 use Rattle.table.proofs.Tests.{and-false}
 use Rattle.table.proofs.Meets.{refused-anywhere}
 use Rattle.list.specs.Acting.{Left, actOn}
@@ -37,7 +36,7 @@ use Rattle.run.specs.declared.Phase.{Phase}
 use Rattle.run.specs.declared.Phase.the-variants.{Refusing, Acting, Walking, Over}
 use Rattle.run.specs.declared.Run.{Run}
 use Rattle.run.proofs.Phase as phase-type
-use Rattle.run.specs.Filling.{Next, piece, nothing, stop, fillFrom}
+use Rattle.run.specs.Filling.{piece, nothing, stop, fillFrom}
 use Rattle.run.specs.Pieces.{World, world, runOf, memoryOf, tableOf, inPhase, nextNumber, wentOn, toWalk, eventNext, addressNext, nextPiece, refusing, startOf, begins}
 use Rattle.run.specs.Parts.{Ready, slotOf, stoppedText, lastText}
 use Rattle.run.proofs.Fills.{full, at-end}
@@ -156,48 +155,24 @@ pub walking-piece : (file : List ℕ) (w : World) (n : Node) (steps : ℕ) → w
 unfolding nextPiece
 walking-piece file w n steps e = rw e
 
-module _ (w : World) (n : Node) (steps : ℕ) where
-  abbrev onto : Node
-  onto = targetOf (linkAt (memoryOf w) n)
-
-  -- by whether the walk goes on
-  abbrev stepBy : Bool → Next World
-  stepBy goes =
-      elim goes [
-        | true ↦ piece (space ∷ decimal (addressAt (memoryOf w) onto)) (inPhase (Walking onto steps) w)
-        | false ↦ piece (newline ∷ []) (inPhase Over w)
-      ]
-
-  by-onto : (goes : Bool) (to : Node) (a : Address) → cond goes (Onto onto (address (addressAt (memoryOf w) onto))) Ends ≡ Onto to a
-      → stepBy goes ≡ piece (space ∷ decimal (a .0)) (inPhase (Walking to steps) w)
-  by-onto true to a h =
-      let p : onto ≡ to = cc in
-      let q : address (addressAt (memoryOf w) onto) ≡ a = cc in
-      λ i. piece (space ∷ decimal (q i .0)) (inPhase (Walking (p i) steps) w)
-  by-onto false to a h = absurd (let z : _≡_ {A = ℕ} 0 1 = cc in omega arith)
-
-  by-ends : (goes : Bool) → cond goes (Onto onto (address (addressAt (memoryOf w) onto))) Ends ≡ Ends → stepBy goes ≡ piece (newline ∷ []) (inPhase Over w)
-  by-ends true h = absurd (let z : _≡_ {A = ℕ} 0 1 = cc in omega arith)
-  by-ends false h = refl
-
 -- a walk that has steps left
 steps-left : (steps : ℕ) (x : Walked) → x ≡ cond (eqb (suc steps) 0) Ends x
 steps-left steps x = rw (ne-eqb (suc steps) 0 (λ z. omega arith))
 
 address-next : (w : World) (n : Node) (steps : ℕ) (to : Node) (a : Address) → cond (eqb steps 0) Ends (walkedFrom (memoryOf w) n) ≡ Onto to a
     → addressNext w n steps ≡ piece (space ∷ decimal (a .0)) (inPhase (Walking to (steps - 1)) w)
-unfolding addressNext walkedFrom
+unfolding addressNext
 address-next w n zero to a h = absurd (let z : _≡_ {A = ℕ} 0 1 = cc in omega arith)
 address-next w n (suc steps) to a h =
     let d : steps ≡ suc steps - 1 = omega arith in
-    by-onto w n steps (goesOn (memoryOf w) n (targetOf (linkAt (memoryOf w) n))) to a (steps-left steps (walkedFrom (memoryOf w) n) ∙ h)
-    ∙ ap (λ (k : ℕ). piece (space ∷ decimal (a .0)) (inPhase (Walking to k) w)) d
+    rw (steps-left steps (walkedFrom (memoryOf w) n) ∙ h, addressNext)
+    (ap (λ (k : ℕ). piece (space ∷ decimal (a .0)) (inPhase (Walking to k) w)) d)
 
 newline-next : (w : World) (n : Node) (steps : ℕ) → cond (eqb steps 0) Ends (walkedFrom (memoryOf w) n) ≡ Ends
     → addressNext w n steps ≡ piece (newline ∷ []) (inPhase Over w)
-unfolding addressNext walkedFrom
+unfolding addressNext
 newline-next w n zero h = refl
-newline-next w n (suc steps) h = by-ends w n steps (goesOn (memoryOf w) n (targetOf (linkAt (memoryOf w) n))) (steps-left steps (walkedFrom (memoryOf w) n) ∙ h)
+newline-next w n (suc steps) h = rw (steps-left steps (walkedFrom (memoryOf w) n) ∙ h, addressNext)
 
 pub address-piece : (file : List ℕ) (w : World) (n : Node) (steps : ℕ) (to : Node) (a : Address) → w .run .phase ≡ Walking n steps
     → cond (eqb steps 0) Ends (walkedFrom (memoryOf w) n) ≡ Onto to a

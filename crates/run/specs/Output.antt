@@ -22,16 +22,16 @@ lines number (o ∷ os) = line number o ++ lines (number + 1) os
 unfoldable pub stopLine : ℕ → (ended : ℕ) → List ℕ
 stopLine number ended = cond (eqb ended 0) [] (line number (Refused ended))
 
--- "The last line, also after 4 to 6 in an event, is `keys`"
-unfoldable pub played : State → List Event → (ended : ℕ) → List ℕ
-played σ events ended =
-    lines 0 (outcomes σ events)
-    ++ (stopLine (length events) ended ++ keysLine (chainAddresses (runs σ events .memory)))
+-- "The last line, also after 4 to 6 in an event, is `keys`": the lines of events, numbered on from a number, and the last line
+unfoldable pub played : (number : ℕ) → State → List Event → (ended : ℕ) → List ℕ
+played number σ events ended =
+    lines number (outcomes σ events)
+    ++ (stopLine (number + length events) ended ++ keysLine (chainAddresses (runs σ events .memory)))
 
 -- "The run program reads standard input. A bad header prints only `0 refused N`."
 unfoldable pub output : (input : List ℕ) → List ℕ
 output input =
     elim (readFile input) [
       | badHeader n ↦ line 0 (Refused n)
-      | file h x ↦ played (fresh (h .nodes) (h .processes)) (eventsOf (x .items)) (x .ended)
+      | file h x ↦ played 0 (fresh (h .nodes) (h .processes)) (eventsOf (x .items)) (x .ended)
     ]

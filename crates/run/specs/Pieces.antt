@@ -1,6 +1,6 @@
 -- The pieces of a run's output: what comes next, wherever the run stands, and how a run begins. Rests on the schedule's cursors, the place
 -- table's events, the walk along the chain and the text.
-use mathlib.Core.Bool.{true, false, cond}
+use mathlib.Core.Bool.{cond}
 use mathlib.Core.List.{List, [], _∷_, _++_}
 use Prim.Native.Nat.{ℕ, zero, suc, _+_}
 use lib.Dec.{ltb}
@@ -9,17 +9,19 @@ use Rattle.record.specs.Record.{freshRecord, headNode}
 use Rattle.record.specs.declared.Node.{Node}
 use Rattle.record.specs.declared.Record.{Record}
 use Rattle.record.specs.declared.Outcome.the-variants as outcome
-use Rattle.table.specs.Words.{Memory, memory, linkAt, addressAt, targetOf, aboveAll}
-use Rattle.table.specs.Chain.{goesOn}
-use Rattle.table.specs.Events.{State, stateOf, event}
+use Rattle.table.specs.Words.{Memory, aboveAll}
+use Rattle.table.specs.Events.{State, event}
 use Rattle.words.specs.declared.Sizes.{Sizes}
 use Rattle.schedule.specs.declared.Cursor.{Cursor}
 use Rattle.schedule.specs.declared.EventRead.the-variants as read
 use Rattle.schedule.specs.declared.HeaderRead.the-variants as header
 use Rattle.schedule.specs.Cursors.{start, headerAt, eventAt}
-use Rattle.lent.specs.Fresh.{freshTables}
+use Rattle.lent.specs.Lent.{stateIn}
+use Rattle.lent.specs.Fresh.{sizesOf, freshTables}
 use Rattle.lent.specs.declared.Made.{Made}
 use Rattle.lent.specs.declared.Made.the-variants.{Fresh, Refused}
+use Rattle.chain.specs.Walking.{walkedFrom}
+use Rattle.chain.specs.declared.Walked.the-variants.{Onto, Ends}
 use Rattle.text.specs.Text.{line, decimal, keysWord, space, newline}
 use Rattle.run.specs.declared.Phase.{Phase}
 use Rattle.run.specs.declared.Phase.the-variants.{Refusing, Acting, Walking, Over}
@@ -39,12 +41,12 @@ world addresses links deleters run = record { addresses = addresses; links = lin
 abbrev pub runOf : Phase → Cursor → Sizes → ℕ → List Record → Run
 runOf phase cursor sizes number row = record { phase = phase; cursor = cursor; sizes = sizes; number = number; row = row }
 
--- its memory, and its state in the place table
-abbrev pub memoryOf : World → Memory
-memoryOf w = memory (w .addresses) (w .links) (w .deleters) (w .run .sizes .count)
-
+-- its state in the place table, and its memory
 abbrev pub tableOf : World → State
-tableOf w = stateOf (w .run .sizes .nodes) (w .run .sizes .processes) (memoryOf w) (w .run .row)
+tableOf w = stateIn (w .addresses) (w .links) (w .deleters) (w .run .sizes) (w .run .row)
+
+abbrev pub memoryOf : World → Memory
+memoryOf w = tableOf w .memory
 
 -- the same but for its phase
 abbrev pub phase≔ : Phase → Run → Run
@@ -61,9 +63,7 @@ nextNumber n = cond (ltb n 4294967295) (n + 1) n
 abbrev pub wentOn : World → Cursor → State → World
 wentOn w next σ =
     world (σ .memory .addresses) (σ .memory .links) (σ .memory .deleters)
-    (runOf (w .run .phase) next
-    (record { nodes = σ .nodes; processes = σ .processes; count = σ .memory .count })
-    (nextNumber (w .run .number)) (σ .row))
+    (runOf (w .run .phase) next (sizesOf σ) (nextNumber (w .run .number)) (σ .row))
 
 -- the walk for the last line begins at head
 abbrev pub toWalk : World → World
@@ -84,10 +84,9 @@ eventNext file w =
 unfoldable pub addressNext : World → Node → (steps : ℕ) → Next World
 addressNext w n zero = piece (newline ∷ []) (inPhase Over w)
 addressNext w n (suc steps) =
-    let onto = targetOf (linkAt (memoryOf w) n) in
-    elim (goesOn (memoryOf w) n onto) [
-      | true ↦ piece (space ∷ decimal (addressAt (memoryOf w) onto)) (inPhase (Walking onto steps) w)
-      | false ↦ piece (newline ∷ []) (inPhase Over w)
+    elim (walkedFrom (memoryOf w) n) [
+      | Onto onto a ↦ piece (space ∷ decimal (a .0)) (inPhase (Walking onto steps) w)
+      | Ends ↦ piece (newline ∷ []) (inPhase Over w)
     ]
 
 -- "A bad header prints only `0 refused N`."

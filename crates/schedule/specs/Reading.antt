@@ -74,7 +74,7 @@ unfoldable pub nextItem : List ℕ → NextItem
 nextItem [] = end
 nextItem (b ∷ s) = standing (readItem (b ∷ s))
 
--- "A file is accepted if it reads to its end without 4 to 7."; every item takes a byte, so that the length and one are turns enough
+-- "A file is accepted if it reads to its end without 4 to 7.": item after item, in so many turns
 unfoldable pub readItems : (turns : ℕ) → List ℕ → Reading
 readItems zero s = reading [] s 0
 readItems (suc turns) s =
@@ -84,6 +84,10 @@ readItems (suc turns) s =
       | refuses n ↦ reading [] s n
     ]
 
+-- what stands after a header; every item takes a byte, so that the length and one are turns enough
+unfoldable pub readAll : List ℕ → Reading
+readAll s = readItems (suc (length s)) s
+
 pub data File : Type 0 where
   badHeader : (refusal : ℕ) → File
   file : Header → Reading → File
@@ -92,4 +96,4 @@ pub data File : Type 0 where
 unfoldable pub readFile : List ℕ → File
 readFile s =
     cond (ltb 65536 (length s)) (badHeader 7)
-    (elim (readHeader s) [ got h left ↦ file h (readItems (suc (length left)) left) | stops n ↦ badHeader n ])
+    (elim (readHeader s) [ got h left ↦ file h (readAll left) | stops n ↦ badHeader n ])

@@ -4,6 +4,7 @@ use mathlib.Core.List.{List, _++_}
 use Prim.Native.Nat.{ℕ, _+_, _-_, min}
 use lib.Dec.{leb}
 use lib.ListN.{length, take, drop}
+use Rattle.record.specs.Over.{over}
 use Rattle.record.specs.declared.Event.{Event}
 use Rattle.table.specs.Events.{sizesFit}
 use Rattle.schedule.specs.declared.Header.{Header}
@@ -31,7 +32,7 @@ room output at = min (length output) 65536 - at
 
 -- bytes laid at a place over what stands there
 abbrev pub laid : List ℕ → List ℕ → ℕ → List ℕ
-laid bytes output at = take at output ++ (bytes ++ drop (length bytes) (drop at output))
+laid bytes output at = take at output ++ over bytes (drop at output)
 
 -- "9: fewer bytes left than the header or event needs", "output unchanged"
 unfoldable pub put : List ℕ → List ℕ → ℕ → Wrote

@@ -16,16 +16,12 @@ use Rattle.record.specs.declared.Event.{Event}
 use Rattle.record.specs.declared.Event.the-variants.{Insert, Delete, Find, Step, Stop, Restart}
 use Rattle.record.specs.declared.Outcome.{Outcome}
 use Rattle.record.specs.declared.Outcome.the-variants.{Refused, Accepted, Answered}
-use Rattle.table.specs.Words.{Memory, addressAt, linkAt, deleterAt, linkWord, targetOf, isMarked, noDeleter, deleterWord, inUse, rank}
+use Rattle.table.specs.Words.{Memory, addressAt, linkAt, deleterAt, linkWord, targetOf, isMarked, noDeleter, deleterWord, inUse, addressLimit, rank}
 use Rattle.table.specs.Chain.{OnChain, Struck, Held}
 use Rattle.table.specs.Events.{State, event, recordIn, sizesFit, tablesFit, fresh}
 use Rattle.table.specs.History.{Kind, insert, delete, find, Answer, Operation, Set, History, Order}
 
 -- ---- quiet, well-formed states: nothing is asked of nodes off the chain or of records past the process count
-
--- "Addresses: 0 to 4,294,967,295, all usable."
-abbrev pub addressLimit : ℕ
-addressLimit = 4294967296
 
 pub record Quiet (σ : State) : Type 0 where
   -- the tables fit the sizes, and every process is idle

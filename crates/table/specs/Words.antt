@@ -49,9 +49,13 @@ deleterWord p = p .0 + 1
 abbrev pub inUse : Memory → Node → Bool
 inUse m n = ltb (n .0) (m .count)
 
--- "Head sorts below and tail above every address, by node number": head 0, an address a as a + 1, tail past 4,294,967,295 + 1
+-- "Addresses: 0 to 4,294,967,295, all usable."
+abbrev pub addressLimit : ℕ
+addressLimit = 4294967296
+
+-- "Head sorts below and tail above every address, by node number": head 0, an address a as a + 1, tail past the largest of these
 abbrev pub aboveAll : ℕ
-aboveAll = 4294967297
+aboveAll = addressLimit + 1
 
 abbrev pub rankOf : Address → ℕ
 rankOf a = a .0 + 1

@@ -1,9 +1,10 @@
--- What a writer of text leaves of the part of a block that it is lent. Assumes nothing.
+-- What a writer of text leaves of the part of a block that it is lent. Rests on Over.
 use mathlib.Core.Bool.{cond}
-use mathlib.Core.List.{List, _++_}
+use mathlib.Core.List.{List}
 use Prim.Native.Nat.{ℕ}
 use lib.Dec.{ltb}
-use lib.ListN.{length, drop}
+use lib.ListN.{length}
+use Rattle.record.specs.Over.{over}
 
 -- the part afterwards, and how many bytes were put at its start
 pub record Put : Type 0 where
@@ -15,7 +16,7 @@ put part count = record { part = part; count = count }
 
 -- bytes at the start of a part; what stands past them stays
 abbrev pub puts : (bytes part : List ℕ) → Put
-puts bytes part = put (bytes ++ drop (length bytes) part) (length bytes)
+puts bytes part = put (over bytes part) (length bytes)
 
 -- the room that a writer asks for; every line, and every address with its space, is shorter
 abbrev pub roomAsked : ℕ

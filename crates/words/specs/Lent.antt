@@ -5,8 +5,13 @@ use Prim.Native.Nat.{ℕ}
 use lib.ListN.{getD, set}
 use Rattle.record.specs.declared.Node.{Node}
 use Rattle.record.specs.declared.Address.{Address}
-use Rattle.table.specs.Words.{memory, inUse, swaps, below, equal}
+use Rattle.table.specs.Words.{Memory, memory, inUse, swaps, below, equal}
 use Rattle.words.specs.declared.Order.{Order}
+use Rattle.words.specs.declared.Sizes.{Sizes}
+
+-- the lent tables, with the count that is stated, as the place table's memory
+abbrev pub lentMemory : (addresses links deleters : List ℕ) → Sizes → Memory
+lentMemory addresses links deleters sizes = memory addresses links deleters (sizes .count)
 
 -- a node in use, of which only the count decides
 abbrev pub usedBelow : (count : ℕ) → Node → Bool

@@ -1,11 +1,11 @@
-// The stated sizes and the words of the lent tables: whether sizes and tables fit, nodes in use, link words made and read, the order of nodes, the swap.
-// A word past the end of a table reads as 0, and writing it changes nothing. Rests on the place table's words.
+// The stated sizes and the words of the lent tables: whether sizes and tables fit, nodes in use, link words made and read, the order of nodes,
+// the swap. A word past the end of a table reads as 0, and writing it changes nothing. Rests on the place table's words.
 ghost use mathlib.Core.Path.{_≡_};
 ghost use Prim.Native.Nat.{_%_};
 ghost use lib.ListN.{getD, set};
-ghost use Rattle.table.specs.Words.{memory, linkWord, targetOf, isMarked, rank, rankOf};
+ghost use Rattle.table.specs.Words.{linkWord, targetOf, isMarked, rank, rankOf};
 ghost use Rattle.table.specs.Events.{sizesFit, tablesFit};
-ghost use Rattle.words.specs.Lent.{usedBelow, orderOf, swapped, swapOf};
+ghost use Rattle.words.specs.Lent.{lentMemory, usedBelow, orderOf, swapped, swapOf};
 use record::Address;
 use record::HEAD;
 use record::Node;
@@ -33,7 +33,8 @@ pub fn sizes_fit(nodes: u32, processes: u32) -> bool
 
 // Whether they are, and the lent tables long enough for them, and the count within the nodes.
 pub fn tables_fit(addresses: &[u32], links: &[u32], deleters: &[u32], sizes: Sizes) -> bool
-    ensures { λ r. ⌜ r ≡ tablesFit (sizes .nodes) (sizes .processes) (memory (now (addresses .entry)) (now (links .entry)) (now (deleters .entry)) (sizes .count)) ⌝ }
+    ensures { λ r. ⌜ r ≡ tablesFit (sizes .nodes) (sizes .processes)
+        (lentMemory (now (addresses .entry)) (now (links .entry)) (now (deleters .entry)) sizes) ⌝ }
 {
     let nodes = sizes.nodes as usize;
     sizes_fit(sizes.nodes, sizes.processes)

@@ -4,7 +4,7 @@ use Prim.Native.Nat.{ℕ, _≤_, _-_}
 use mathlib.Core.List.{List}
 use lib.ListN.{length, set, replicate}
 use borrow.Author.Needs.{needs}
-use Rattle.lent.specs.Fresh.{over}
+use Rattle.record.specs.Over.{over}
 use Rattle.lent.proofs.Over.{one-more-laid}
 use Rattle.lent.proofs.clear.Statement.{statement}
 use Rattle.lent.proofs.clear.Tie as tie

@@ -19,7 +19,8 @@ use Rattle.record.specs.Record.{freshRecord}
 use Rattle.record.specs.declared.Record.{Record}
 use Rattle.lent.specs.declared.Beside.{Beside}
 use Rattle.lent.specs.declared.Made.{Made}
-use Rattle.lent.specs.Fresh.{over, listLeft, freshList}
+use Rattle.record.specs.Over.{over}
+use Rattle.lent.specs.Fresh.{listLeft, freshList}
 use Rattle.lent.proofs.Beside as beside
 use Rattle.lent.proofs.Beside.Laws as beside-laws
 use Rattle.lent.proofs.Made as made

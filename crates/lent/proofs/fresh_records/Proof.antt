@@ -22,7 +22,7 @@ use Rattle.record.proofs.Record.fresh.Symbol as fresh-def
 use Rattle.record.proofs.Record.fresh.Symbol.{name as #fresh}
 use Rattle.record.proofs.Record.fresh.Met as fresh-thm
 use lib.ListN.{replicate}
-use Rattle.lent.specs.Fresh.{over}
+use Rattle.record.specs.Over.{over}
 use Rattle.lent.proofs.Over.{one-more-laid, laid-length}
 use Rattle.lent.proofs.fresh_records.Key.{name as #own}
 use Rattle.lent.proofs.fresh_records as fn
