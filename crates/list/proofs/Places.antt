@@ -2,8 +2,7 @@
 use mathlib.Core.Path.{_≡_, sym, _∙_}
 use mathlib.Core.Bool.{Bool, true, false}
 use mathlib.Core.List.{List}
-use Prim.Native.Nat.{ℕ, _<_, _≤_}
-use native.Mathlib.Omega.{arith}
+use Prim.Native.Nat.{ℕ, _<_}
 use borrow.Author.Tests.{lt-leb}
 use Rattle.record.specs.declared.Process.{Process}
 use Rattle.record.specs.declared.Record.{Record}
@@ -15,24 +14,15 @@ use Rattle.list.specs.declared.Acted.{Acted}
 use Rattle.list.specs.Acting.{left}
 use Rattle.list.specs.Parts.{answered, stepped}
 
--- the last place of 5 to 10
-pub last-of-delete : (n : ℕ) → 5 ≤ n → n < 11 → (n ≡ 5 → ⊥) → (n ≡ 6 → ⊥) → (n ≡ 7 → ⊥) → (n ≡ 8 → ⊥) → (n ≡ 9 → ⊥) → n ≡ 10
-last-of-delete n a b d e f g h = omega arith
-
 module _ (addresses links deleters : List ℕ) (sizes : Sizes) (p : Process) (r : Record) where
   pub out-of-range : inRange r ≡ false →
       left addresses links deleters (answered sizes r (Refused 8)) ≡ stepped addresses links deleters sizes p r
   unfolding stepped stepOf turnIn
   out-of-range h = rw h
 
-  no-place : 20 ≤ r .lost .place → inRange r ≡ false
-  unfolding inRange
-  no-place h = rw (lt-leb (r .lost .place) 19 (omega arith))
-
-  pub off-the-table : (a : Acted) → a ≡ answered sizes r (Refused 8) → 18 ≤ r .lost .place → (r .lost .place ≡ 18 → ⊥) →
-      (r .lost .place ≡ 19 → ⊥) →
+  pub off-the-table : (a : Acted) → a ≡ answered sizes r (Refused 8) → 19 < r .lost .place →
       left addresses links deleters a ≡ stepped addresses links deleters sizes p r
-  off-the-table a e h k l = rw e (out-of-range (no-place (omega arith)))
+  off-the-table a is off = rw is (out-of-range (unfold inRange in rw (lt-leb (r .lost .place) 19 off)))
 
   -- what a test of the ranges told
   pub refused-8 : (ranged : Bool) → ranged ≡ inRange r → (a : Acted) → a ≡ answered sizes r (Refused 8) → ranged ≡ false →

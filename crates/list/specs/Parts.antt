@@ -50,6 +50,12 @@ pub record StandsAt (n : ℕ) (r : Record) : Type 0 where
   pub place : r .lost .place ≡ n
   pub ranged : inRange r ≡ true
 
+-- or at one of a group of places
+pub record StandsIn (first last : ℕ) (r : Record) : Type 0 where
+  pub from : first ≤ r .lost .place
+  pub to : r .lost .place ≤ last
+  pub ranged : inRange r ≡ true
+
 abbrev pub answered : Sizes → Record → Outcome → Acted
 answered sizes r outcome = record { advanced = r; sizes = sizes; outcome = outcome }
 

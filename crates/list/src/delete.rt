@@ -4,7 +4,7 @@ ghost use mathlib.Core.List.{List};
 ghost use Prim.Native.Nat.{ℕ};
 ghost use Rattle.record.specs.declared.Process as spec;
 ghost use Rattle.list.specs.Acting.{left};
-ghost use Rattle.list.specs.Parts.{StandsAt, Within, stepped};
+ghost use Rattle.list.specs.Parts.{StandsAt, StandsIn, Within, stepped};
 ghost use Prim.Native.Nat.{_<_};
 use crate::Acted;
 use crate::access;
@@ -94,4 +94,29 @@ pub(crate) fn row_10(deleters: &[u32], sizes: Sizes, p: Process, old: Record) ->
     let mine = access::read_deleter(deleters, curr, p);
     let answer = answers::pick(mine, TRUE, FALSE);
     answers::turn(accepted, sizes, old, old.goes_with(18, answer))
+}
+
+// Places 5 to 10.
+pub(crate) fn rows(
+    links: &mut [u32],
+    deleters: &mut [u32],
+    sizes: Sizes,
+    p: Process,
+    old: Record,
+) -> Acted
+    requires { ⌜ StandsIn 5 10 old ⌝ }
+    requires { ⌜ Within sizes ⌝ }
+    requires { ⌜ p .0 < 64 ⌝ }
+    ensures { λ a. ⌜ ((addresses : List ℕ) → left addresses (now (links .exit)) (now (deleters .exit)) a ≡
+        stepped addresses (now (links .entry)) (now (deleters .entry)) sizes p old) ⌝ }
+{
+    let place = old.lost.place;
+    match place {
+        5 => row_5(sizes, old),
+        6 => row_6(links, sizes, old),
+        7 => row_7(links, sizes, old),
+        8 => row_8(links, sizes, old),
+        9 => row_9(deleters, sizes, p, old),
+        _ => row_10(deleters, sizes, p, old),
+    }
 }

@@ -4,7 +4,7 @@ ghost use mathlib.Core.List.{List};
 ghost use Prim.Native.Nat.{ℕ};
 ghost use Rattle.record.specs.declared.Process as spec;
 ghost use Rattle.list.specs.Acting.{left};
-ghost use Rattle.list.specs.Parts.{StandsAt, stepped};
+ghost use Rattle.list.specs.Parts.{StandsAt, StandsIn, stepped};
 use crate::Acted;
 use crate::access;
 use crate::answers;
@@ -44,4 +44,17 @@ pub(crate) fn row_12(links: &[u32], sizes: Sizes, old: Record) -> Acted
     let read = access::read_link(links, sizes, words::in_use(curr, sizes.count), curr);
     let answer = answers::pick(read.mark, FALSE, TRUE);
     answers::turn(read.accepted, sizes, old, old.goes_with(19, answer))
+}
+
+// Places 11 and 12.
+pub(crate) fn rows(addresses: &[u32], links: &[u32], sizes: Sizes, old: Record) -> Acted
+    requires { ⌜ StandsIn 11 12 old ⌝ }
+    ensures { λ a. ⌜ ((deleters : List ℕ) → (p : spec.Process) → left (now (addresses .entry)) (now (links .entry)) deleters a ≡
+        stepped (now (addresses .entry)) (now (links .entry)) deleters sizes p old) ⌝ }
+{
+    let place = old.lost.place;
+    match place {
+        11 => row_11(addresses, links, sizes, old),
+        _ => row_12(links, sizes, old),
+    }
 }

@@ -4,7 +4,7 @@ ghost use mathlib.Core.List.{List};
 ghost use Prim.Native.Nat.{ℕ};
 ghost use Rattle.record.specs.declared.Process as spec;
 ghost use Rattle.list.specs.Acting.{left};
-ghost use Rattle.list.specs.Parts.{StandsAt, Within, stepped};
+ghost use Rattle.list.specs.Parts.{StandsAt, StandsIn, Within, stepped};
 use crate::Acted;
 use crate::access;
 use crate::answers;
@@ -44,4 +44,18 @@ pub(crate) fn row_4(links: &mut [u32], sizes: Sizes, old: Record) -> Acted
     let place = answers::pick(wrote, 18, 0);
     let answer = answers::pick(wrote, TRUE, pending);
     answers::turn(accepted, sizes, old, old.goes_with(place, answer))
+}
+
+// Places 3 and 4.
+pub(crate) fn rows(links: &mut [u32], sizes: Sizes, old: Record) -> Acted
+    requires { ⌜ StandsIn 3 4 old ⌝ }
+    requires { ⌜ Within sizes ⌝ }
+    ensures { λ a. ⌜ ((addresses deleters : List ℕ) → (p : spec.Process) → left addresses (now (links .exit)) deleters a ≡
+        stepped addresses (now (links .entry)) deleters sizes p old) ⌝ }
+{
+    let place = old.lost.place;
+    match place {
+        3 => row_3(links, sizes, old),
+        _ => row_4(links, sizes, old),
+    }
 }

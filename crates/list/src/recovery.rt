@@ -4,7 +4,7 @@ ghost use mathlib.Core.List.{List};
 ghost use Prim.Native.Nat.{ℕ};
 ghost use Rattle.record.specs.declared.Process as spec;
 ghost use Rattle.list.specs.Acting.{left};
-ghost use Rattle.list.specs.Parts.{StandsAt, stepped};
+ghost use Rattle.list.specs.Parts.{StandsAt, StandsIn, stepped};
 ghost use Prim.Native.Nat.{_<_};
 use crate::Acted;
 use crate::access;
@@ -120,5 +120,28 @@ pub(crate) fn row_19(sizes: Sizes, old: Record) -> Acted
         advanced: old.rests(),
         sizes,
         outcome: Outcome::Answered(answer),
+    }
+}
+
+// Places 13 to 17.
+pub(crate) fn rows(
+    links: &[u32],
+    deleters: &mut [u32],
+    sizes: Sizes,
+    p: Process,
+    old: Record,
+) -> Acted
+    requires { ⌜ StandsIn 13 17 old ⌝ }
+    requires { ⌜ p .0 < 64 ⌝ }
+    ensures { λ a. ⌜ ((addresses : List ℕ) → left addresses (now (links .entry)) (now (deleters .exit)) a ≡
+        stepped addresses (now (links .entry)) (now (deleters .entry)) sizes p old) ⌝ }
+{
+    let place = old.lost.place;
+    match place {
+        13 => row_13(sizes, old),
+        14 => row_14(links, sizes, old),
+        15 => row_15(links, sizes, old),
+        16 => row_16(deleters, sizes, p, old),
+        _ => row_17(deleters, sizes, p, old),
     }
 }

@@ -4,7 +4,7 @@ ghost use mathlib.Core.List.{List};
 ghost use Prim.Native.Nat.{ℕ};
 ghost use Rattle.record.specs.declared.Process as spec;
 ghost use Rattle.list.specs.Acting.{left};
-ghost use Rattle.list.specs.Parts.{StandsAt, Within, stepped, EndsAt};
+ghost use Rattle.list.specs.Parts.{StandsAt, StandsIn, Within, stepped, EndsAt};
 use crate::Acted;
 use crate::access;
 use crate::answers;
@@ -119,4 +119,19 @@ pub(crate) fn row_2(links: &mut [u32], sizes: Sizes, old: Record) -> Acted
     let wrote = access::swap_link(links, accepted, pred, curr, succ, false);
     let after = answers::either(wrote, old.unlinked(), old.goes(0));
     answers::turn(accepted, sizes, old, after)
+}
+
+// Places 0 to 2.
+pub(crate) fn rows(addresses: &[u32], links: &mut [u32], sizes: Sizes, old: Record) -> Acted
+    requires { ⌜ StandsIn 0 2 old ⌝ }
+    requires { ⌜ Within sizes ⌝ }
+    ensures { λ a. ⌜ ((deleters : List ℕ) → (p : spec.Process) → left (now (addresses .entry)) (now (links .exit)) deleters a ≡
+        stepped (now (addresses .entry)) (now (links .entry)) deleters sizes p old) ⌝ }
+{
+    let place = old.lost.place;
+    match place {
+        0 => row_0(links, sizes, old),
+        1 => row_1(addresses, links, sizes, old),
+        _ => row_2(links, sizes, old),
+    }
 }

@@ -1,4 +1,4 @@
-// One step: the record's ranges, then one match on the place, which chooses among the twenty rows. Rests on the rows.
+// One step: the record's ranges, then one match on the place with ranges, which chooses among the twenty rows. Rests on the rows.
 ghost use mathlib.Core.Path.{_≡_};
 ghost use mathlib.Core.Bool.{true};
 ghost use Prim.Native.Nat.{_<_};
@@ -52,36 +52,15 @@ fn row(
 {
     let place = old.lost.place;
     match place {
-        0..=2 => match place {
-            0 => search::row_0(links, sizes, old),
-            1 => search::row_1(addresses, links, sizes, old),
-            _ => search::row_2(links, sizes, old),
+        0..=2 => search::rows(addresses, links, sizes, old),
+        3..=4 => insert::rows(links, sizes, old),
+        5..=10 => delete::rows(links, deleters, sizes, p, old),
+        11..=12 => find::rows(addresses, links, sizes, old),
+        13..=17 => recovery::rows(links, deleters, sizes, p, old),
+        18..=19 => match place {
+            18 => recovery::row_18(sizes, old),
+            _ => recovery::row_19(sizes, old),
         },
-        3..=4 => match place {
-            3 => insert::row_3(links, sizes, old),
-            _ => insert::row_4(links, sizes, old),
-        },
-        5..=10 => match place {
-            5 => delete::row_5(sizes, old),
-            6 => delete::row_6(links, sizes, old),
-            7 => delete::row_7(links, sizes, old),
-            8 => delete::row_8(links, sizes, old),
-            9 => delete::row_9(deleters, sizes, p, old),
-            _ => delete::row_10(deleters, sizes, p, old),
-        },
-        11..=12 => match place {
-            11 => find::row_11(addresses, links, sizes, old),
-            _ => find::row_12(links, sizes, old),
-        },
-        13..=17 => match place {
-            13 => recovery::row_13(sizes, old),
-            14 => recovery::row_14(links, sizes, old),
-            15 => recovery::row_15(links, sizes, old),
-            16 => recovery::row_16(deleters, sizes, p, old),
-            _ => recovery::row_17(deleters, sizes, p, old),
-        },
-        18 => recovery::row_18(sizes, old),
-        19 => recovery::row_19(sizes, old),
         _ => answers::refused(sizes, old, 8),
     }
 }

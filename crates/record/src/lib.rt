@@ -4,7 +4,8 @@ ghost use mathlib.Core.Path.{_≡_};
 ghost use mathlib.Core.Bool.{cond};
 ghost use lib.Dec.{eqb};
 ghost use Rattle.record.specs.Event.{refusalIn};
-ghost use Rattle.record.specs.Record.{lostAt, _▸_, _with_, to, pred≔, curr≔, succ≔, node≔, result≔, status≔, freshRecord, requested, wentDown, restarted, headNode, Idle};
+ghost use Rattle.record.specs.Record.{lostAt, lostPart, recordOf, _▸_, _with_, to, pred≔, curr≔, succ≔, node≔, result≔, status≔};
+ghost use Rattle.record.specs.Record.{freshRecord, requested, wentDown, restarted, headNode, Idle};
 
 // A node of the table: head is 0, tail 1.
 pub struct Node(pub u32);
@@ -170,56 +171,87 @@ impl Record {
         Record { lost, kept }
     }
 
+    // These in the lost part; its flag and the kept part stay. Field by field, so that no part of a record is copied through memory.
+    fn with_lost(self, pred: Node, curr: Node, succ: Node, place: u8, pending: u8) -> Record
+        ensures { λ r. ⌜ r ≡ recordOf (lostPart place pred curr succ pending (self .lost .recovering)) (self .kept) ⌝ }
+    {
+        let lost = Lost {
+            pred,
+            curr,
+            succ,
+            place,
+            pending,
+            recovering: self.lost.recovering,
+        };
+        let address = self.kept.address;
+        let node = self.kept.node;
+        let kept = Kept {
+            address,
+            node,
+            status: self.kept.status,
+            kind: self.kept.kind,
+            result: self.kept.result,
+        };
+        Record { lost, kept }
+    }
+
+    // To a place.
+    pub fn goes(self, place: u8) -> Record
+        ensures { λ r. ⌜ r ≡ (self ▸ to place) ⌝ }
+    {
+        let lost = self.lost;
+        self.with_lost(lost.pred, lost.curr, lost.succ, place, lost.pending)
+    }
+
+    // To a place with an answer.
+    pub fn goes_with(self, place: u8, answer: u8) -> Record
+        ensures { λ r. ⌜ r ≡ (self ▸ place with answer) ⌝ }
+    {
+        let lost = self.lost;
+        self.with_lost(lost.pred, lost.curr, lost.succ, place, answer)
+    }
+
     // Row 0: pred is head, curr the target; to 1.
-    pub fn from_head(mut self, target: Node) -> Record
+    pub fn from_head(self, target: Node) -> Record
         ensures { λ r. ⌜ r ≡ (self ▸ pred≔ headNode ▸ curr≔ target ▸ to 1) ⌝ }
     {
-        let head = HEAD;
-        let mut lost = self.lost;
-        lost.pred = head;
-        lost.curr = target;
-        lost.place = 1;
-        self.lost = lost;
-        self
+        let lost = self.lost;
+        self.with_lost(HEAD, target, lost.succ, 1, lost.pending)
     }
 
     // Row 1: succ is the target; where the search goes onward, pred is curr and curr is succ; to a place with an answer.
-    pub fn scans(mut self, target: Node, onward: bool, place: u8, answer: u8) -> Record
-        ensures { λ r. ⌜ r ≡ (cond onward (self ▸ succ≔ target ▸ pred≔ (self .lost .curr) ▸ curr≔ target) (self ▸ succ≔ target) ▸ place with answer) ⌝ }
+    pub fn scans(self, target: Node, onward: bool, place: u8, answer: u8) -> Record
+        ensures { λ r. ⌜ r ≡
+            (cond onward (self ▸ succ≔ target ▸ pred≔ (self .lost .curr) ▸ curr≔ target) (self ▸ succ≔ target) ▸ place with answer) ⌝ }
     {
-        let pred = either(onward, self.lost.curr, self.lost.pred);
-        let curr = either(onward, target, self.lost.curr);
-        let mut lost = self.lost;
-        lost.pred = pred;
-        lost.curr = curr;
-        lost.succ = target;
-        lost.place = place;
-        lost.pending = answer;
-        self.lost = lost;
-        self
-    }
-
-    // Row 6: succ is the target; to a place.
-    pub fn found(mut self, target: Node, place: u8) -> Record
-        ensures { λ r. ⌜ r ≡ (self ▸ succ≔ target ▸ to place) ⌝ }
-    {
-        let mut lost = self.lost;
-        lost.succ = target;
-        lost.place = place;
-        self.lost = lost;
-        self
+        let lost = self.lost;
+        let pred = either(onward, lost.curr, lost.pred);
+        let curr = either(onward, target, lost.curr);
+        self.with_lost(pred, curr, target, place, answer)
     }
 
     // Row 2, done: curr is succ; to 1.
-    pub fn unlinked(mut self) -> Record
+    pub fn unlinked(self) -> Record
         ensures { λ r. ⌜ r ≡ (self ▸ curr≔ (self .lost .succ) ▸ to 1) ⌝ }
     {
-        let succ = self.lost.succ;
-        let mut lost = self.lost;
-        lost.curr = succ;
-        lost.place = 1;
-        self.lost = lost;
-        self
+        let lost = self.lost;
+        self.with_lost(lost.pred, lost.succ, lost.succ, 1, lost.pending)
+    }
+
+    // Row 6: succ is the target; to a place.
+    pub fn found(self, target: Node, place: u8) -> Record
+        ensures { λ r. ⌜ r ≡ (self ▸ succ≔ target ▸ to place) ⌝ }
+    {
+        let lost = self.lost;
+        self.with_lost(lost.pred, lost.curr, target, place, lost.pending)
+    }
+
+    // Row 11: curr is the target; to a place with an answer.
+    pub fn walked(self, target: Node, place: u8, answer: u8) -> Record
+        ensures { λ r. ⌜ r ≡ (self ▸ curr≔ target ▸ place with answer) ⌝ }
+    {
+        let lost = self.lost;
+        self.with_lost(lost.pred, target, lost.succ, place, answer)
     }
 
     // Row 5: curr is written as the record's node; to 6.
@@ -231,35 +263,6 @@ impl Record {
         kept.node = curr;
         self.kept = kept;
         self.lost.place = 6;
-        self
-    }
-
-    // Row 11: curr is the target; to a place with an answer.
-    pub fn walked(mut self, target: Node, place: u8, answer: u8) -> Record
-        ensures { λ r. ⌜ r ≡ (self ▸ curr≔ target ▸ place with answer) ⌝ }
-    {
-        let mut lost = self.lost;
-        lost.curr = target;
-        lost.place = place;
-        lost.pending = answer;
-        self.lost = lost;
-        self
-    }
-
-    // To a place.
-    pub fn goes(mut self, place: u8) -> Record
-        ensures { λ r. ⌜ r ≡ (self ▸ to place) ⌝ }
-    {
-        self.lost.place = place;
-        self
-    }
-
-    // To a place with an answer.
-    pub fn goes_with(mut self, place: u8, answer: u8) -> Record
-        ensures { λ r. ⌜ r ≡ (self ▸ place with answer) ⌝ }
-    {
-        self.lost.place = place;
-        self.lost.pending = answer;
         self
     }
 

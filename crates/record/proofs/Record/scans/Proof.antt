@@ -22,10 +22,13 @@ either-requires c κs = search needs
 either-requires-2 : tie.Need-either-requires-2
 either-requires-2 c κs = search needs
 
+with-lost-requires : tie.Need-with-lost-requires
+with-lost-requires c κs = search needs
+
 returns : tie.Need-returns
 returns c =
-    rw (c .before .either2 .ensures, c .before .before .either .ensures)
-    (let a = c .before .before .before .args in by-cases (a .onward) (a .self) (a .target) (a .place) (a .answer))
+    rw (c .with-lost .ensures, c .before .either2 .ensures, c .before .before .either .ensures)
+    (let a = c .before .before .before .before .args in by-cases (a .onward) (a .self) (a .target) (a .place) (a .answer))
 
 pub scans-spec : {M : Type 1} → statement M
-scans-spec = tie.close (tie.spec either-requires either-requires-2 returns)
+scans-spec = tie.close (tie.spec either-requires either-requires-2 with-lost-requires returns)
