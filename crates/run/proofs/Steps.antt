@@ -1,7 +1,7 @@
 -- What comes next in a run, by what its reader, its list and its walk gave. Rests on Pieces.
 use Prim.Native.Nat.{ℕ, zero, suc, _-_, _<_, _≤_}
 use mathlib.Core.List.{List, [], _∷_}
-use mathlib.Core.Bool.{Bool, true, false, cond, _&&_, true≢false}
+use mathlib.Core.Bool.{Bool, true, false, cond, _&&_, true≢false, and-false}
 use mathlib.Core.Path.{_≡_, refl, ap, sym, _∙_}
 use mathlib.Core.Logic.{_⊎_, ⊎-elim}
 use native.Mathlib.Omega.{arith}
@@ -17,7 +17,6 @@ use Rattle.record.specs.declared.Event.{Event}
 use Rattle.record.specs.declared.Outcome.the-variants as outcome
 use Rattle.table.specs.Words.{Memory, memory, linkAt, addressAt}
 use Rattle.table.specs.Events.{State, Acted, act, acted, sizesFit, tablesFit, event, stored, recordIn, Leaves}
-use Rattle.table.proofs.Tests.{and-false}
 use Rattle.table.proofs.Meets.{refused-anywhere}
 use Rattle.list.specs.Acting.{Left, actOn}
 use Rattle.schedule.specs.declared.Cursor.{Cursor}

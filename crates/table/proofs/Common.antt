@@ -10,8 +10,8 @@ pub use native.Mathlib.Decide.{ℕ-discrete, decLe, decLt, le-ind}
 pub use native.Mathlib.Nat.{zero-add}
 pub use lib.Dec.{leb, ltb, eqb}
 pub use lib.ListN.{length, getD, set, length-set}
-pub use lib.Seq.{set-getD, getD-set-same, getD-set-other}
-pub use borrow.Author.Tests.{ltb-true, leb-true, eqb-true, eqb-false, not-true, not-false, lt-ltb, le-ltb, le-leb, eq-eqb, ne-eqb}
+pub use lib.Seq.{getD-set-same, getD-set-other}
+pub use borrow.Author.Tests.{ltb-true, leb-true, eqb-true, eqb-false, lt-ltb, le-ltb, le-leb, eq-eqb, ne-eqb}
 pub use Rattle.record.specs.Record.{node, process, noNode, Idle, Running, Down, Inserts, Deletes, Finds, NoAnswer, False, True, Fail, recordOf}
 pub use Rattle.record.specs.Record.{freshRecord, _▸_, _with_, curr≔, succ≔, to, requested, wentDown, restarted}
 pub use Rattle.record.specs.Event.{kindOf, processOf, addressOf}
@@ -25,15 +25,15 @@ pub use Rattle.record.specs.declared.Event.{Event}
 pub use Rattle.record.specs.declared.Event.the-variants.{Insert, Delete, Find, Step, Stop, Restart}
 pub use Rattle.record.specs.declared.Outcome.{Outcome}
 pub use Rattle.record.specs.declared.Outcome.the-variants.{Refused, Accepted, Answered}
-pub use Rattle.table.specs.Words.{Memory, memory, linkWord, targetOf, isMarked, inUse, aboveAll, below, equal, Write, nothing, linkIs}
-pub use Rattle.table.specs.Words.{deleterIs, nextNode}
+pub use Rattle.table.specs.Words.{Memory, linkWord, targetOf, isMarked, inUse, aboveAll, below, equal, Write, nothing, linkIs, deleterIs}
+pub use Rattle.table.specs.Words.{nextNode}
 unfoldable pub use Rattle.table.specs.Words.{addressAt, linkAt, deleterAt, rank, written, givenOut}
 pub use Rattle.table.specs.Places.{Place, p0, p1, p2, p3, p4, p5, p6, p7, p8, p9, p10, p11, p12, p13, p14, p15, p16, p17, p18, p19, off, Next}
 unfoldable pub use Rattle.table.specs.Places.{placeOf, row, searchEnds}
 pub use Rattle.table.specs.Steps.{accessOf, recordAfter}
 unfoldable pub use Rattle.table.specs.Steps.{wordMet, turnIn, inRange}
 pub use Rattle.table.specs.Events.{Acted, acted, statusNeeded, State, stateOf, Leaves}
-unfoldable pub use Rattle.table.specs.Events.{stepOf, does, sizesFit, tablesFit, act, recordIn, stored, event}
+unfoldable pub use Rattle.table.specs.Events.{stepOf, does, sizesFit, tablesFit, recordIn, stored, event}
 pub use Rattle.table.specs.Chain.{Reach, here, next, OnChain, Struck, HeldBy, Held, follows}
 pub use Rattle.table.specs.History.{Answer, Operation, Set, History}
 pub use Rattle.table.specs.Demand3.{Quiet, answerAt, firstOf, history, AddressesFit, IsHeld}

@@ -48,27 +48,32 @@ pub data Does (m : Memory) (p n k : ℕ) : Write → Type 0 where
   strikes : (c s : ℕ) → c ≡ k → 2 ≤ c → On m c → linkIn m c ≡ plainTo s → Does m p n k (linkSet c (markedTo s))  -- at 7
   signs : (x : ℕ) → x ≡ k → Used m x → Marked m x → deleterIn m x ≡ 0 → Does m p n k (deleterSet x (p + 1))  -- at 9 and 16
 
-pub keeps-itself : (m : Memory) → Keeps m m
+keeps-itself : (m : Memory) → Keeps m m
 keeps-itself m = record { used = λ n u. u; ranks = λ n h. refl; frozen = λ n h s. refl; signed = λ n h s. refl; stays = λ n o. inl o }
 
--- a write to a plain word
-module _ (N : ℕ) (m : Memory) (i : Orderly N m) (a w : ℕ) (u : Used m a) (plain : Plain m a) where
-  abbrev m₁ : Memory
-  m₁ = written (linkSet a w) m
+-- ---- each of the six keeps the invariant
 
-  pub word-written : linkIn m₁ a ≡ w
+abbrev StaysOrderly : ℕ → Memory → Memory → Type 0
+StaysOrderly N m m′ = Orderly N m′ × Keeps m m′
+
+-- a write to a plain word
+module _ {N : ℕ} {m : Memory} (i : Orderly N m) (a w : ℕ) (u : Used m a) (plain : Plain m a) where
+  abbrev m-written : Memory
+  m-written = written (linkSet a w) m
+
+  word-written : linkIn m-written a ≡ w
   word-written = link-at m a w (omega (arith, within (i .room) a u, i .room .links))
 
-  pub follows-at : follows m₁ a ≡ w / 2
+  follows-at : follows m-written a ≡ w / 2
   follows-at = ap (λ (x : ℕ). x / 2) word-written
 
-  pub follows-else : (x : ℕ) → x ≢ a → follows m₁ x ≡ follows m x
+  follows-else : (x : ℕ) → x ≢ a → follows m-written x ≡ follows m x
   follows-else x h = ap (λ (x : ℕ). x / 2) (link-else m a w x h)
 
-  pub frozen-after : (n : ℕ) → Marked m n → linkIn m₁ n ≡ linkIn m n
+  frozen-after : (n : ℕ) → Marked m n → linkIn m-written n ≡ linkIn m n
   frozen-after n s = link-else m a w n λ q. absurd (omega (arith, ap (λ x. linkIn m x % 2) q))
 
-  pub keeps-after : ((n : ℕ) → On m n → On m₁ n ⊎ (Marked m n × (linkIn m₁ n ≡ linkIn m n))) → Keeps m m₁
+  keeps-after : ((n : ℕ) → On m n → On m-written n ⊎ (Marked m n × (linkIn m-written n ≡ linkIn m n))) → Keeps m m-written
   keeps-after f = record {
     used = λ n u. used-written (linkSet a w) m n u;
     ranks = λ n h. rank-written (linkSet a w) m n;
@@ -78,80 +83,64 @@ module _ (N : ℕ) (m : Memory) (i : Orderly N m) (a w : ℕ) (u : Used m a) (pl
   }
 
   -- the invariant after such a write, from what it does to the chain
-  pub orderly-after : (a ≡ 0 → w % 2 ≡ 0) → (a ≢ 1) → ((n : ℕ) → On m₁ n → Used m n) → ((n : ℕ) → On m₁ n → deleterIn m n ≢ 0 → Marked m n)
-      → ((n : ℕ) → On m₁ n → n ≢ 1 → rankIn m n < rankIn m (follows m₁ n)) → Orderly N m₁
+  orderly-after : (a ≡ 0 → w % 2 ≡ 0) → (a ≢ 1) → ((n : ℕ) → On m-written n → Used m n)
+      → ((n : ℕ) → On m-written n → deleterIn m n ≢ 0 → Marked m n)
+      → ((n : ℕ) → On m-written n → n ≢ 1 → rankIn m n < rankIn m (follows m-written n)) → Orderly N m-written
   orderly-after hd a1 us sn ri = record {
     room = room-written (linkSet a w) (i .room);
-    head = head-after (ℕ-discrete 0 a);
+    head = elim (ℕ-discrete 0 a) [
+      | yes q ↦ omega (arith, ap (linkIn m-written) q, word-written, hd (sym q))
+      | no q ↦ omega (arith, link-else m a w 0 q, i .head)
+    ];
     tail = link-else m a w 1 (λ q. a1 (sym q)) ∙ i .tail;
-    rise = λ n o h. omega (arith, ri n o h, rank-written (linkSet a w) m n, rank-written (linkSet a w) m (follows m₁ n));
+    rise = λ n o h. omega (arith, ri n o h, rank-written (linkSet a w) m n, rank-written (linkSet a w) m (follows m-written n));
     used = λ n o. used-written (linkSet a w) m n (us n o);
     signed = λ n o h. ap (λ x. x % 2) (frozen-after n (sg n o h)) ∙ sg n o h;
   }
     where
-      head-after : Dec (0 ≡ a) → Plain m₁ 0
-      head-after (yes q) = omega (arith, ap (linkIn m₁) q, word-written, hd (sym q))
-      head-after (no q) = omega (arith, link-else m a w 0 q, i .head)
-
-      sg : (n : ℕ) → On m₁ n → deleterIn m₁ n ≢ 0 → Marked m n
+      sg : (n : ℕ) → On m-written n → deleterIn m-written n ≢ 0 → Marked m n
       sg n o h = sn n o (λ q. h (deleter-linked m a w n ∙ q))
 
--- ---- each of the six keeps the invariant
+  -- one that leaves the chain as it is
+  chain-stays : (a ≡ 0 → w % 2 ≡ 0) → a ≢ 1 → ((x : ℕ) → On m x → follows m-written x ≡ follows m x) → StaysOrderly N m m-written
+  chain-stays hd a1 same = (
+    orderly-after hd a1 (λ x o. i .used x (back o)) (λ x o. i .signed x (back o)) (λ x o k. rw (same x (back o)) (i .rise x (back o) k)),
+    keeps-after (λ x o. inl (same-chain (follows m) (follows m-written) same o)),
+  )
+    where
+      back : {x : ℕ} → On m-written x → On m x
+      back o = same-chain-back (follows m) (follows m-written) same o
 
-StaysOrderly : ℕ → Memory → Memory → Type 0
-StaysOrderly N m m′ = Orderly N m′ × Keeps m m′
-
-module _ (N : ℕ) (m : Memory) (i : Orderly N m) where
+module _ {N : ℕ} {m : Memory} (i : Orderly N m) where
   marked-not-tail : (c : ℕ) (s : ℕ) → linkIn m c ≡ markedTo s → c ≢ 1
   marked-not-tail c s h q = absurd (omega (arith, ap (linkIn m) q, i .tail))
 
   -- own node, off the chain
   owns-orderly : (n w : ℕ) → 2 ≤ n → Used m n → (On m n → ⊥) → Plain m n → w % 2 ≡ 0 → StaysOrderly N m (written (linkSet n w) m)
-  unfolding StaysOrderly
-  owns-orderly n w h u off pl ev = (
-    orderly-after N m i n w u pl (λ q. ev) (λ q. absurd (omega arith)) (λ x o. i .used x (back o)) (λ x o. i .signed x (back o))
-        (λ x o k. rw (follows-else N m i n w u pl x (λ q. off (cast (back o) q))) (i .rise x (back o) k)),
-    keeps-after N m i n w u pl (λ x o. inl (same-chain (follows m) (follows (written (linkSet n w) m))
-        (λ y r. follows-else N m i n w u pl y (λ q. off (cast r q))) o)),
-  )
-    where
-      back : {x : ℕ} → On (written (linkSet n w) m) x → On m x
-      back o = same-chain-back (follows m) (follows (written (linkSet n w) m)) (λ y r. follows-else N m i n w u pl y (λ q. off (cast r q))) o
+  owns-orderly n w h u off pl ev =
+      chain-stays i n w u pl (λ q. ev) (λ q. absurd (omega arith)) (λ x o. follows-else i n w u pl x (λ q. off (cast o q)))
 
-  -- the word of c is changed, and its target is not
+  -- the word of c is marked, and its target stays
   module _ (c s : ℕ) (h : 2 ≤ c) (o : On m c) (e : linkIn m c ≡ plainTo s) where
-    abbrev m₄ : Memory
-    m₄ = written (linkSet c (markedTo s)) m
+    strike-follows : (x : ℕ) → follows (written (linkSet c (markedTo s)) m) x ≡ follows m x
+    strike-follows x = elim (ℕ-discrete x c) [
+      | yes q ↦ omega (
+        arith,
+        ap (follows (written (linkSet c (markedTo s)) m)) q,
+        ap (follows m) q,
+        follows-at i c (markedTo s) (i .used c o) (omega arith),
+      )
+      | no q ↦ follows-else i c (markedTo s) (i .used c o) (omega arith) x q
+    ]
 
-    strike-used : Used m c
-    strike-used = i .used c o
-
-    strike-plain : Plain m c
-    strike-plain = omega arith
-
-    strike-follows′ : (x : ℕ) → Dec (x ≡ c) → follows m₄ x ≡ follows m x
-    strike-follows′ x (yes q) = omega (arith, ap (follows m₄) q, ap (follows m) q, follows-at N m i c (markedTo s) strike-used strike-plain)
-    strike-follows′ x (no q) = follows-else N m i c (markedTo s) strike-used strike-plain x q
-
-    strike-follows : (x : ℕ) → follows m₄ x ≡ follows m x
-    strike-follows x = strike-follows′ x (ℕ-discrete x c)
-
-    strike-back : {x : ℕ} → On m₄ x → On m x
-    strike-back r = same-chain-back (follows m) (follows m₄) (λ y r. strike-follows y) r
-
-    strikes-orderly : StaysOrderly N m m₄
-    unfolding StaysOrderly
-    strikes-orderly = (
-      orderly-after N m i c (markedTo s) strike-used strike-plain (λ q. absurd (omega arith)) (λ q. absurd (omega arith)) (λ x r. i .used x (strike-back r))
-          (λ x r. i .signed x (strike-back r))
-          (λ x r k. rw strike-follows (i .rise x (strike-back r) k)),
-      keeps-after N m i c (markedTo s) strike-used strike-plain (λ x r. inl (same-chain (follows m) (follows m₄) (λ y r. strike-follows y) r)),
-    )
+    strikes-orderly : StaysOrderly N m (written (linkSet c (markedTo s)) m)
+    strikes-orderly = chain-stays i c (markedTo s) (i .used c o) (omega arith) (λ q. absurd (omega arith)) (λ q. absurd (omega arith))
+        (λ x r. strike-follows x)
 
   -- a struck node is taken out
   module _ (a c s : ℕ) (o : On m a) (ea : linkIn m a ≡ plainTo c) (ec : linkIn m c ≡ markedTo s) where
-    abbrev m₂ : Memory
-    m₂ = written (linkSet a (plainTo s)) m
+    abbrev m-cut : Memory
+    m-cut = written (linkSet a (plainTo s)) m
 
     cut-used : Used m a
     cut-used = i .used a o
@@ -168,20 +157,20 @@ module _ (N : ℕ) (m : Memory) (i : Orderly N m) where
     cut-before : follows m a ≡ c
     cut-before = omega arith
 
-    cut-after : follows m₂ a ≡ follows m c
-    cut-after = omega (arith, follows-at N m i a (plainTo s) cut-used cut-plain)
+    cut-after : follows m-cut a ≡ follows m c
+    cut-after = omega (arith, follows-at i a (plainTo s) cut-used cut-plain)
 
-    cut-else : (x : ℕ) → x ≢ a → follows m₂ x ≡ follows m x
-    cut-else x q = follows-else N m i a (plainTo s) cut-used cut-plain x q
+    cut-else : (x : ℕ) → x ≢ a → follows m-cut x ≡ follows m x
+    cut-else x q = follows-else i a (plainTo s) cut-used cut-plain x q
 
-    cut-back : {x : ℕ} → On m₂ x → On m x
-    cut-back r = cut-brings (follows m) (follows m₂) a c cut-before cut-pred-not-tail cut-not-tail cut-after cut-else o r
+    cut-back : {x : ℕ} → On m-cut x → On m x
+    cut-back r = cut-brings (follows m) (follows m-cut) a c cut-before cut-pred-not-tail cut-not-tail cut-after cut-else o r
 
-    cut-rises : (x : ℕ) → On m x → x ≢ 1 → Dec (x ≡ a) → rankIn m x < rankIn m (follows m₂ x)
+    cut-rises : (x : ℕ) → On m x → x ≢ 1 → Dec (x ≡ a) → rankIn m x < rankIn m (follows m-cut x)
     cut-rises x r k (yes q) = omega (
       arith,
       ap (rankIn m) q,
-      ap (λ y. rankIn m (follows m₂ y)) q,
+      ap (λ y. rankIn m (follows m-cut y)) q,
       ap (rankIn m) cut-after,
       i .rise a o cut-pred-not-tail,
       ap (rankIn m) cut-before,
@@ -189,22 +178,22 @@ module _ (N : ℕ) (m : Memory) (i : Orderly N m) where
     )
     cut-rises x r k (no q) = rw (cut-else x q) (i .rise x r k)
 
-    cut-stays : (x : ℕ) → On m₂ x ⊎ ((x ≡ c) × On m₂ a) → On m₂ x ⊎ (Marked m x × (linkIn m₂ x ≡ linkIn m x))
+    cut-stays : (x : ℕ) → On m-cut x ⊎ ((x ≡ c) × On m-cut a) → On m-cut x ⊎ (Marked m x × (linkIn m-cut x ≡ linkIn m x))
     cut-stays x (inl r) = inl r
-    cut-stays x (inr r) = let sx : Marked m x = omega (arith, ap (linkIn m) (r .0)) in inr (sx, frozen-after N m i a (plainTo s) cut-used cut-plain x sx)
+    cut-stays x (inr r) = let sx : Marked m x = omega (arith, ap (linkIn m) (r .0)) in inr (sx, frozen-after i a (plainTo s) cut-used cut-plain x sx)
 
-    cuts-orderly : StaysOrderly N m m₂
-    unfolding StaysOrderly
+    cuts-orderly : StaysOrderly N m m-cut
     cuts-orderly = (
-      orderly-after N m i a (plainTo s) cut-used cut-plain (λ q. omega arith) cut-pred-not-tail (λ x r. i .used x (cut-back r)) (λ x r. i .signed x (cut-back r))
-          (λ x r k. cut-rises x (cut-back r) k (ℕ-discrete x a)),
-      keeps-after N m i a (plainTo s) cut-used cut-plain (λ x r. cut-stays x (cut-keeps (follows m) (follows m₂) a c cut-before cut-pred-not-tail cut-not-tail cut-after cut-else r)),
+      orderly-after i a (plainTo s) cut-used cut-plain (λ q. omega arith) cut-pred-not-tail (λ x r. i .used x (cut-back r))
+          (λ x r. i .signed x (cut-back r)) (λ x r k. cut-rises x (cut-back r) k (ℕ-discrete x a)),
+      keeps-after i a (plainTo s) cut-used cut-plain
+          (λ x r. cut-stays x (cut-keeps (follows m) (follows m-cut) a c cut-before cut-pred-not-tail cut-not-tail cut-after cut-else r)),
     )
 
   -- a new node is put in
   module _ (a n c : ℕ) (x : Insertable m n a c) where
-    abbrev m₃ : Memory
-    m₃ = written (linkSet a (plainTo n)) m
+    abbrev m-added : Memory
+    m-added = written (linkSet a (plainTo n)) m
 
     add-used-pred : Used m a
     add-used-pred = i .used a (x .on)
@@ -218,23 +207,23 @@ module _ (N : ℕ) (m : Memory) (i : Orderly N m) where
     add-pred-not-tail : a ≢ 1
     add-pred-not-tail q = absurd (omega (arith, ap (rankIn m) q, rank-tail m, x .above, x .small))
 
-    add-after : follows m₃ a ≡ n
-    add-after = omega (arith, follows-at N m i a (plainTo n) add-used-pred add-plain-pred)
+    add-after : follows m-added a ≡ n
+    add-after = omega (arith, follows-at i a (plainTo n) add-used-pred add-plain-pred)
 
     add-differs : n ≢ a
     add-differs q = absurd (omega (arith, ap (rankIn m) q, x .above))
 
-    add-onward : follows m₃ n ≡ follows m a
-    add-onward = omega (arith, follows-else N m i a (plainTo n) add-used-pred add-plain-pred n add-differs, x .word, x .before)
+    add-onward : follows m-added n ≡ follows m a
+    add-onward = omega (arith, follows-else i a (plainTo n) add-used-pred add-plain-pred n add-differs, x .word, x .before)
 
-    add-else : (y : ℕ) → y ≢ a → y ≢ n → follows m₃ y ≡ follows m y
-    add-else y q k = follows-else N m i a (plainTo n) add-used-pred add-plain-pred y q
+    add-else : (y : ℕ) → y ≢ a → y ≢ n → follows m-added y ≡ follows m y
+    add-else y q k = follows-else i a (plainTo n) add-used-pred add-plain-pred y q
 
     add-off : (y : ℕ) → On m y → y ≢ n
     add-off y r q = x .new (cast r q)
 
-    pub add-new : {y : ℕ} → On m₃ y → On m y ⊎ (y ≡ n)
-    add-new r = put-brings (follows m) (follows m₃) a n add-not-tail add-after add-onward add-else add-off (x .on) add-pred-not-tail r
+    add-new : {y : ℕ} → On m-added y → On m y ⊎ (y ≡ n)
+    add-new r = put-brings (follows m) (follows m-added) a n add-not-tail add-after add-onward add-else add-off (x .on) add-pred-not-tail r
 
     add-used : (y : ℕ) → On m y ⊎ (y ≡ n) → Used m y
     add-used y (inl r) = i .used y r
@@ -247,39 +236,38 @@ module _ (N : ℕ) (m : Memory) (i : Orderly N m) where
     add-before : follows m a ≡ c
     add-before = omega (arith, x .before)
 
-    add-rises : (y : ℕ) → On m y ⊎ (y ≡ n) → y ≢ 1 → Dec (y ≡ a) → Dec (y ≡ n) → rankIn m y < rankIn m (follows m₃ y)
-    add-rises y r k (yes q) e = omega (arith, ap (rankIn m) q, ap (λ z. rankIn m (follows m₃ z)) q, ap (rankIn m) add-after, x .above)
+    add-rises : (y : ℕ) → On m y ⊎ (y ≡ n) → y ≢ 1 → Dec (y ≡ a) → Dec (y ≡ n) → rankIn m y < rankIn m (follows m-added y)
+    add-rises y r k (yes q) e = omega (arith, ap (rankIn m) q, ap (λ z. rankIn m (follows m-added z)) q, ap (rankIn m) add-after, x .above)
     add-rises y r k (no q) (yes e) = omega (
       arith,
       ap (rankIn m) e,
-      ap (λ z. rankIn m (follows m₃ z)) e,
+      ap (λ z. rankIn m (follows m-added z)) e,
       ap (rankIn m) add-onward,
       ap (rankIn m) add-before,
       x .under,
     )
-    add-rises y (inl r) k (no q) (no e) = rw (follows-else N m i a (plainTo n) add-used-pred add-plain-pred y q) (i .rise y r k)
+    add-rises y (inl r) k (no q) (no e) = rw (follows-else i a (plainTo n) add-used-pred add-plain-pred y q) (i .rise y r k)
     add-rises y (inr r) k (no q) (no e) = absurd (e r)
 
-    pub add-on : On m₃ n
-    add-on = next (put-keeps (follows m) (follows m₃) a n add-not-tail add-after add-onward add-else add-off (x .on)) add-pred-not-tail add-after
+    pub add-on : On m-added n
+    add-on = next (put-keeps (follows m) (follows m-added) a n add-not-tail add-after add-onward add-else add-off (x .on)) add-pred-not-tail add-after
 
-    adds-orderly : StaysOrderly N m m₃
-    unfolding StaysOrderly
+    adds-orderly : StaysOrderly N m m-added
     adds-orderly = (
-      orderly-after N m i a (plainTo n) add-used-pred add-plain-pred (λ q. omega arith) add-pred-not-tail (λ y r. add-used y (add-new r)) (λ y r. add-signed y (add-new r))
-          (λ y r k. add-rises y (add-new r) k (ℕ-discrete y a) (ℕ-discrete y n)),
-      keeps-after N m i a (plainTo n) add-used-pred add-plain-pred (λ y r. inl (put-keeps (follows m) (follows m₃) a n add-not-tail add-after add-onward add-else add-off r)),
+      orderly-after i a (plainTo n) add-used-pred add-plain-pred (λ q. omega arith) add-pred-not-tail (λ y r. add-used y (add-new r))
+          (λ y r. add-signed y (add-new r)) (λ y r k. add-rises y (add-new r) k (ℕ-discrete y a) (ℕ-discrete y n)),
+      keeps-after i a (plainTo n) add-used-pred add-plain-pred
+          (λ y r. inl (put-keeps (follows m) (follows m-added) a n add-not-tail add-after add-onward add-else add-off r)),
     )
 
   -- a deleter is written
   signs-orderly : (n p : ℕ) → Used m n → Marked m n → deleterIn m n ≡ 0 → StaysOrderly N m (written (deleterSet n (p + 1)) m)
-  unfolding StaysOrderly
   signs-orderly n p u s d = (
     record {
       room = room-written f (i .room);
       head = omega (arith, link-signed m n (p + 1) 0, i .head);
       tail = link-signed m n (p + 1) 1 ∙ i .tail;
-      rise = λ x r h. omega (arith, i .rise x (back r) h, rank-written f m x, rank-written f m (follows m₂ x), ap (rankIn m) (same x));
+      rise = λ x r h. omega (arith, i .rise x (back r) h, rank-written f m x, rank-written f m (follows m′ x), ap (rankIn m) (same x));
       used = λ x r. used-written f m x (i .used x (back r));
       signed = λ x r h. ap (λ y. y % 2) (link-signed m n (p + 1) x) ∙ sg x r h (ℕ-discrete x n);
     },
@@ -288,28 +276,28 @@ module _ (N : ℕ) (m : Memory) (i : Orderly N m) where
       ranks = λ x h. rank-written f m x;
       frozen = λ x h e. link-signed m n (p + 1) x;
       signed = λ x h e. deleter-else m n (p + 1) x (λ q. e (ap (deleterIn m) q ∙ d));
-      stays = λ x r. inl (same-chain (follows m) (follows m₂) (λ y r. same y) r);
+      stays = λ x r. inl (same-chain (follows m) (follows m′) (λ y r. same y) r);
     },
   )
     where
       f : Write
       f = deleterSet n (p + 1)
 
-      m₂ : Memory
-      m₂ = written (deleterSet n (p + 1)) m
+      m′ : Memory
+      m′ = written (deleterSet n (p + 1)) m
 
-      same : (x : ℕ) → follows m₂ x ≡ follows m x
+      same : (x : ℕ) → follows m′ x ≡ follows m x
       same x = ap (λ y. y / 2) (link-signed m n (p + 1) x)
 
-      back : {x : ℕ} → On m₂ x → On m x
-      back r = same-chain-back (follows m) (follows m₂) (λ y r. same y) r
+      back : {x : ℕ} → On m′ x → On m x
+      back r = same-chain-back (follows m) (follows m′) (λ y r. same y) r
 
-      sg : (x : ℕ) → On m₂ x → deleterIn m₂ x ≢ 0 → Dec (x ≡ n) → Marked m x
+      sg : (x : ℕ) → On m′ x → deleterIn m′ x ≢ 0 → Dec (x ≡ n) → Marked m x
       sg x r h (yes q) = ap (λ y. linkIn m y % 2) q ∙ s
       sg x r h (no q) = i .signed x (back r) (λ e. h (deleter-else m n (p + 1) x q ∙ e))
 
   pub does-keeps : {p n k : ℕ} {f : Write} → Does m p n k f → Orderly N (written f m) × Keeps m (written f m)
-  unfolding StaysOrderly written
+  unfolding written
   does-keeps rests = (i, keeps-itself m)
   does-keeps {n = n} (owns w a b c d e) = owns-orderly n w a b c d e
   does-keeps {n = n} (adds a c v) = adds-orderly a n c v
@@ -334,19 +322,16 @@ IsOwns (cuts a c s o e g) = ⊥
 IsOwns (strikes c s ck h o e) = ⊥
 IsOwns (signs x xk u s d) = ⊥
 
-module _ (N : ℕ) (m : Memory) (i : Orderly N m) where
+module _ {N : ℕ} {m : Memory} (i : Orderly N m) where
   pub does-new : {p n k : ℕ} {f : Write} (d : Does m p n k f) {x : ℕ} → On (written f m) x → On m x ⊎ ((x ≡ n) × IsAdds d)
   unfolding written
   does-new rests r = inl r
   does-new {n = n} (owns w a b c d e) r = inl
-      (same-chain-back (follows m) (follows (written (linkSet n w) m)) (λ y s. follows-else N m i n w b d y (λ q. c (cast s q))) r)
-  does-new {n = n} (adds a c v) {x} r = go (add-new N m i a n c v r)
-    where
-      go : On m x ⊎ (x ≡ n) → On m x ⊎ ((x ≡ n) × Unit {0})
-      go (inl z) = inl z
-      go (inr z) = inr (z, tt)
-  does-new (cuts a c s o e g) r = inl (cut-back N m i a c s o e g r)
-  does-new (strikes c s ck h o e) r = inl (strike-back N m i c s h o e r)
+      (same-chain-back (follows m) (follows (written (linkSet n w) m)) (λ y s. follows-else i n w b d y (λ q. c (cast s q))) r)
+  does-new {n = n} (adds a c v) {x} r = elim (add-new i a n c v r) [ inl z ↦ inl z | inr z ↦ inr (z, tt) ]
+  does-new (cuts a c s o e g) r = inl (cut-back i a c s o e g r)
+  does-new (strikes c s ck h o e) r = inl
+      (same-chain-back (follows m) (follows (written (linkSet c (markedTo s)) m)) (λ y z. strike-follows i c s h o e y) r)
   does-new {p} (signs x xk u s d) r = inl (same-chain-back (follows m) (follows (written (deleterSet x (p + 1)) m))
       (λ y z. ap (λ y. y / 2) (link-signed m x (p + 1) y)) r)
 
@@ -359,45 +344,38 @@ module _ (N : ℕ) (m : Memory) (i : Orderly N m) where
   does-else (strikes c s ck z o e) x h k = link-else m c (markedTo s) x (λ q. h (cast o (sym q)))
   does-else {p} (signs y yk u s d) x h k = link-signed m y (p + 1) x
 
-  -- a deleter is written on the delete's own node, and it is p's
+  -- a deleter is written on the delete's own node, which is marked, and it is p's
   pub does-signs : {p n k : ℕ} {f : Write} (d : Does m p n k f) (x : ℕ) → deleterIn (written f m) x ≢ deleterIn m x
-      → (x ≡ k) × (deleterIn (written f m) x ≡ p + 1)
+      → (x ≡ k) × (deleterIn (written f m) x ≡ p + 1) × Marked m x
   unfolding written
   does-signs rests x h = absurd (h refl)
   does-signs {n = n} (owns w a b c d e) x h = absurd (h (deleter-linked m n w x))
   does-signs {n = n} (adds a c v) x h = absurd (h (deleter-linked m a (plainTo n) x))
   does-signs (cuts a c s o e g) x h = absurd (h (deleter-linked m a (plainTo s) x))
   does-signs (strikes c s ck z o e) x h = absurd (h (deleter-linked m c (markedTo s) x))
-  does-signs {p} {k = k} (signs y yk u s d) x h = go (ℕ-discrete x y)
-    where
-      go : Dec (x ≡ y) → (x ≡ k) × (deleterIn (written (deleterSet y (p + 1)) m) x ≡ p + 1)
-      go (yes q) = (
-        q ∙ yk,
-        ap (deleterIn (written (deleterSet y (p + 1)) m)) q ∙ deleter-at m y (p + 1) (omega (arith, within (i .room) y u, i .room .deleters)),
-      )
-      go (no q) = absurd (h (deleter-else m y (p + 1) x q))
+  does-signs {p} {k = k} (signs y yk u s d) x h = elim (ℕ-discrete x y) [
+    | yes q ↦ (
+      q ∙ yk,
+      ap (deleterIn (written (deleterSet y (p + 1)) m)) q ∙ deleter-at m y (p + 1) (omega (arith, within (i .room) y u, i .room .deleters)),
+      ap (λ z. linkIn m z % 2) q ∙ s,
+    )
+    | no q ↦ absurd (h (deleter-else m y (p + 1) x q))
+  ]
 
   pub does-deleter : {p n k : ℕ} {f : Write} (d : Does m p n k f) (x : ℕ)
       → (deleterIn (written f m) x ≡ deleterIn m x) ⊎ (deleterIn (written f m) x ≡ p + 1)
-  does-deleter {p} {f = f} d x = go (ℕ-discrete (deleterIn (written f m) x) (deleterIn m x))
-    where
-      go : Dec (deleterIn (written f m) x ≡ deleterIn m x) → (deleterIn (written f m) x ≡ deleterIn m x) ⊎ (deleterIn (written f m) x ≡ p + 1)
-      go (yes q) = inl q
-      go (no q) = inr (does-signs d x q .1)
+  does-deleter {p} {f = f} d x = elim (ℕ-discrete (deleterIn (written f m) x) (deleterIn m x)) [ yes q ↦ inl q | no q ↦ inr (does-signs d x q .1) ]
 
   -- the deleter of an unmarked node stays
   pub does-unsigned : {p n k : ℕ} {f : Write} (d : Does m p n k f) (x : ℕ) → Plain m x → deleterIn (written f m) x ≡ deleterIn m x
-  unfolding written
-  does-unsigned rests x h = refl
-  does-unsigned {n = n} (owns w a b c d e) x h = deleter-linked m n w x
-  does-unsigned {n = n} (adds a c v) x h = deleter-linked m a (plainTo n) x
-  does-unsigned (cuts a c s o e g) x h = deleter-linked m a (plainTo s) x
-  does-unsigned (strikes c s ck z o e) x h = deleter-linked m c (markedTo s) x
-  does-unsigned {p} (signs y yk u s d) x h = deleter-else m y (p + 1) x (λ q. absurd (omega (arith, ap (linkIn m) q)))
+  does-unsigned {f = f} d x h = elim (ℕ-discrete (deleterIn (written f m) x) (deleterIn m x)) [
+    | yes q ↦ q
+    | no q ↦ absurd (omega (arith, does-signs d x q .2))
+  ]
 
 -- ---- a node is given out
 
-module _ (N : ℕ) (m : Memory) (i : Orderly N m) (a : Address) (hr : nextIn m < N) where
+module _ {N : ℕ} {m : Memory} (i : Orderly N m) (a : Address) (hr : nextIn m < N) where
   pub given-rank : rankIn (givenOut a m) (nextIn m) ≡ a .0 + 1
   given-rank = omega (arith, rank-inner (givenOut a m) (nextIn m) (next-inner (i .room)), given-address a m (omega (arith, i .room .addresses)))
 

@@ -1,12 +1,13 @@
--- What an event does, by cases; refused events change nothing. Rests on Events and KnownWrites.
-use Rattle.table.proofs.Common.{_≡_, refl, _≢_, true, _&&_, ℕ, _≤_, _<_, arith, leb, length, set, getD-set-same, getD-set-other}
-use Rattle.table.proofs.Common.{ltb-true, eqb-true, leb-true, process, noNode, Idle, Running, Down, Inserts, Deletes, Finds, freshRecord, requested, wentDown}
-use Rattle.table.proofs.Common.{restarted, processOf, Process, Address, Record, Event, Insert, Delete, Find, Step, Stop, Restart, Outcome}
-use Rattle.table.proofs.Common.{Refused, Accepted, Memory, written, nextNode, givenOut, Place, placeOf, row, turnIn, inRange, acted, stepOf}
-use Rattle.table.proofs.Common.{does, statusNeeded, sizesFit, tablesFit, State, stateOf, recordIn, Leaves, stored, event}
-use Rattle.table.proofs.Tests.{if, if-eq, and-left, and-right}
+-- What an event does, by cases; refused events change nothing. Rests on Meets, Fitting and KnownWrites.
+use Rattle.table.proofs.Common.{_≡_, refl, _≢_, true, ℕ, _<_, arith, length, set, getD-set-same, getD-set-other, ltb-true, eqb-true, leb-true}
+use Rattle.table.proofs.Common.{process, noNode, Idle, Running, Down, Inserts, Deletes, Finds, freshRecord, requested, wentDown, restarted}
+use Rattle.table.proofs.Common.{processOf, Process, Address, Record, Event, Insert, Delete, Find, Step, Stop, Restart, Outcome, Refused}
+use Rattle.table.proofs.Common.{Accepted, Memory, written, nextNode, givenOut, Place, placeOf, row, turnIn, inRange, acted, stepOf, does}
+use Rattle.table.proofs.Common.{statusNeeded, tablesFit, State, stateOf, recordIn, Leaves, stored, event}
+use Rattle.table.proofs.Tests.{if, if-eq, and-left}
 use Rattle.table.proofs.Meets.{act-judged, refused-stored, event-meets}
 use Rattle.table.proofs.Numbered.{nextIn}
+use Rattle.table.proofs.Fitting.{room-of}
 use Rattle.table.proofs.KnownWrites.{goesAt, writesAt, saysAt}
 
 -- ---- records by process number
@@ -58,12 +59,6 @@ module _ (σ : State) where
 
   -- an event of a process that is there, with tables that fit
   module _ (fit : tablesFit (σ .nodes) (σ .processes) (σ .memory) ≡ true) where
-    counted : σ .memory .count ≤ σ .nodes
-    unfolding tablesFit
-    counted = leb-true (σ .memory .count) (σ .nodes) (and-right
-        (sizesFit (σ .nodes) (σ .processes) && leb (σ .nodes) (length (σ .memory .addresses)) && leb (σ .nodes) (length (σ .memory .links))
-        && leb (σ .nodes) (length (σ .memory .deleters)) && leb 2 (σ .memory .count)) (leb (σ .memory .count) (σ .nodes)) fit)
-
     steps-or-8 : (p : Process) → Able σ (p .0) Running → Happens σ (Step p) (stored σ p (stepOf (σ .memory) p (recordIn σ p)))
     unfolding stepOf stored turnIn
     steps-or-8 p b = if (λ d. Happens σ (Step p) (stored σ p d)) (turnIn (σ .memory) p (recordIn σ p) .fits)
@@ -74,7 +69,7 @@ module _ (σ : State) where
         → Happens σ e (stored σ (processOf e) (does (σ .nodes) (σ .memory) (recordIn σ (processOf e)) e))
     unfolding does stored
     does-happens (Insert p a) b = if-eq (λ d. Happens σ (Insert p a) (stored σ p d)) (σ .memory .count) (σ .nodes)
-        (λ q. refuses-stored (Insert p a) p 3) (λ q. inserts b (omega (arith, counted)))
+        (λ q. refuses-stored (Insert p a) p 3) (λ q. inserts b (omega (arith, room-of (σ .nodes) (σ .processes) (σ .memory) fit .most)))
     does-happens (Delete p a) b = deletes b
     does-happens (Find p a) b = finds b
     does-happens (Step p) b = steps-or-8 p b

@@ -1,54 +1,48 @@
--- Finds: what is known after a step of one's own; this is where hindsight serves. Rests on KnownWrites, KnownStays and Ranges.
-use Rattle.table.proofs.Common.{_≡_, sym, _∙_, ap, _≢_, not, _&&_, ℕ, suc, _+_, _/_, _%_, _<_, arith, ℕ-discrete, eqb, eqb-true, Inserts}
-use Rattle.table.proofs.Common.{Deletes, NoAnswer, Record, Memory, Place, p11, p12, p13, p19, placeOf, row, wordMet, next, follows}
-use Rattle.table.proofs.Tests.{if, if-eq, if-lt, and-left}
-use Rattle.table.proofs.Numbered.{linkIn, rankIn, On, Marked, rank-tail}
+-- Finds: what is known after a step of one's own; this is where hindsight serves. Rests on KnownWrites and KnownStays.
+use Rattle.table.proofs.Common.{recordOf, Lost, _≡_, sym, _∙_, ap, _≢_, not, _&&_, ℕ, suc, _+_, _/_, _%_, _<_, arith, ℕ-discrete, eqb}
+use Rattle.table.proofs.Common.{eqb-true, Inserts, Deletes, NoAnswer, Record, Memory, Place, p11, p12, p13, p19, placeOf, row, wordMet, next}
+use Rattle.table.proofs.Common.{follows}
+use Rattle.table.proofs.Tests.{if, if-eq, if-lt, and-left, if-ne}
+use Rattle.table.proofs.Numbered.{currIn, ownIn, askedIn, linkIn, rankIn, On, Marked, rank-tail}
 use Rattle.table.proofs.Effects.{Orderly}
 use Rattle.table.proofs.Moments.{Course, shorter, OnSince, hindsight, held, between, struck-gone, onNow, rankNow, gone-since}
-use Rattle.table.proofs.Known.{Since, GoneSince, Walked, FindAt, find-11, find-12, find-13, find-19, FindKept, FindKnown}
+use Rattle.table.proofs.Known.{Since, GoneSince, Walked, FindAt, find-11, find-12, find-13, find-19, FindKept, FindKnown, find-says-true}
+use Rattle.table.proofs.Known.{find-says-false}
 use Rattle.table.proofs.KnownWrites.{goesAt}
 use Rattle.table.proofs.KnownStays.{since⁺, course-now, orderly-now}
-use Rattle.table.proofs.Ranges.{if-ne}
 
-module _ (N : ℕ) (M : ℕ → Memory) (t : ℕ) (H : Course N M (suc t)) (r p : ℕ) (rt : r < t) (R : Record) (k : FindKept M (R .kept)) where
-  abbrev a : ℕ
-  a = R .kept .address .0
-
-  abbrev c : ℕ
-  c = R .lost .curr .0
-
+module _ {N : ℕ} {M : ℕ → Memory} {t : ℕ} (H : Course N M (suc t)) (r p : ℕ) (rt : r < t) (R : Record) (k : FindKept M (R .kept)) where
   H₀ : Course N M t
-  H₀ = course-now N M t H
+  H₀ = course-now H
 
   i : Orderly N (M t)
-  i = orderly-now N M t H
+  i = orderly-now H
 
   abbrev Known : Record → Type 0
   Known = FindKnown M r (suc t)
 
-  from-11 : (w : ℕ) → Walked M r t c w → rankIn (M w) c < a + 1 → Known (goesAt p11 (M t) p R)
+  -- the record goes on to a place, its kept part as it was
+  goes-to : {lost : Lost} → FindAt M r (suc t) (recordOf lost (R .kept)) (placeOf (lost .place)) → Known (recordOf lost (R .kept))
+  goes-to x = record { kept = k; place = λ u. x }
+
+  from-11 : (w : ℕ) → Walked M r t (currIn R) w → rankIn (M w) (currIn R) < askedIn R + 1 → Known (goesAt p11 (M t) p R)
   unfolding row wordMet placeOf
-  from-11 w₀ x low = if-lt Known (rankIn (M t) d) (a + 1)
-      (λ l. record { kept = k; place = λ u. find-11 w walked (omega (arith, kd)) })
-      (λ l. if-eq Known (rankIn (M t) d) (a + 1)
-      (λ e. record { kept = k; place = λ u. find-12 w walked (sym kd ∙ e) })
-      (λ e. record {
-        kept = k;
-        place = λ u. find-19 (record {
-          if-true = λ v. absurd (omega arith);
-          if-false = λ v. (
-            w,
-            sw,
-            between N (M w) (H .orderly w (omega (arith, z .2))) c a (z .3) (omega (arith, kc)) (omega (arith, kd, ap (rankIn (M w)) dw)),
-          );
-        });
-      }))
+  from-11 w₀ x low = if-lt Known (rankIn (M t) d) (askedIn R + 1)
+      (λ l. goes-to (find-11 w walked (omega (arith, kd))))
+      (λ l. if-eq Known (rankIn (M t) d) (askedIn R + 1)
+      (λ e. goes-to (find-12 w walked (sym kd ∙ e)))
+      (λ e. goes-to (find-19 (find-says-false (
+        w,
+        sw,
+        between (H .orderly w (omega (arith, z .2))) (currIn R) (askedIn R) (z .3) (omega (arith, kc))
+            (omega (arith, kd, ap (rankIn (M w)) dw)),
+      )))))
     where
       d : ℕ
-      d = follows (M t) c
+      d = follows (M t) (currIn R)
 
-      z : OnSince N M w₀ t c
-      z = hindsight N M w₀ t c (x .since .upto) H₀ (x .on)
+      z : OnSince M w₀ t (currIn R)
+      z = hindsight H₀ w₀ (x .since .upto) (x .on)
 
       w : ℕ
       w = z .0
@@ -56,13 +50,13 @@ module _ (N : ℕ) (M : ℕ → Memory) (t : ℕ) (H : Course N M (suc t)) (r p 
       sw : Since r (suc t) (z .0)
       sw = record { after = omega (arith, x .since .after, z .1); upto = omega (arith, z .2) }
 
-      dw : follows (M w) c ≡ d
+      dw : follows (M w) (currIn R) ≡ d
       dw = ap (λ y. y / 2) (z .4)
 
-      kc : rankIn (M w) c < a + 1
-      kc = omega (arith, rankNow N M w (shorter N M t w (z .2) H₀) w₀ (z .1) c (x .on), low)
+      kc : rankIn (M w) (currIn R) < askedIn R + 1
+      kc = omega (arith, rankNow (shorter H₀ w (z .2)) w₀ (z .1) (x .on), low)
 
-      c1 : c ≢ 1
+      c1 : currIn R ≢ 1
       c1 q = absurd (omega (arith, ap (rankIn (M w)) q, rank-tail (M w), kc, k .small))
 
       od : On (M w) d
@@ -72,44 +66,35 @@ module _ (N : ℕ) (M : ℕ → Memory) (t : ℕ) (H : Course N M (suc t)) (r p 
       walked = record { since = sw; on = od }
 
       kd : rankIn (M t) d ≡ rankIn (M w) d
-      kd = rankNow N M t H₀ w (z .2) d od
+      kd = rankNow H₀ w (z .2) od
 
-  from-12 : (w : ℕ) → Walked M r t c w → rankIn (M w) c ≡ a + 1 → Known (goesAt p12 (M t) p R)
+  from-12 : (w : ℕ) → Walked M r t (currIn R) w → rankIn (M w) (currIn R) ≡ askedIn R + 1 → Known (goesAt p12 (M t) p R)
   unfolding row wordMet placeOf
-  from-12 w x e = if-eq Known (linkIn (M t) c % 2) 1
-      (λ s. record {
-        kept = k;
-        place = λ u. find-19 (record { if-true = λ v. absurd (omega arith); if-false = λ v. gone s (ℕ-discrete (linkIn (M w) c % 2) 1) });
-      })
-      (λ s. record {
-        kept = k;
-        place = λ u. find-19 (record {
-          if-false = λ v. absurd (omega arith);
-          if-true = λ v. (
-            t,
-            record { after = rt; upto = omega arith },
-            held N (M t) i c a (onNow N M t H₀ w (x .since .upto) c (x .on) (omega arith)) (omega arith)
-                (rankNow N M t H₀ w (x .since .upto) c (x .on) ∙ e) (k .small),
-          );
-        });
-      })
+  from-12 w x e = if-eq Known (linkIn (M t) (currIn R) % 2) 1
+      (λ s. goes-to (find-19 (find-says-false (gone s (ℕ-discrete (linkIn (M w) (currIn R) % 2) 1)))))
+      (λ s. goes-to (find-19 (find-says-true (
+        t,
+        record { after = rt; upto = omega arith },
+        held (M t) (currIn R) (askedIn R) (onNow H₀ w (x .since .upto) (x .on) (omega arith)) (omega arith)
+            (rankNow H₀ w (x .since .upto) (x .on) ∙ e) (k .small),
+      ))))
     where
-      gone : Marked (M t) c → Dec (linkIn (M w) c % 2 ≡ 1) → GoneSince M r (suc t) a
-      gone s (yes q) = (w, since⁺ (x .since), struck-gone N (M w) (H .orderly w (omega (arith, x .since .upto))) c a (x .on) q e)
-      gone s (no q) = let z = gone-since N M t H₀ w c a (x .since .upto) (x .on) (omega arith) e s in
+      gone : Marked (M t) (currIn R) → Dec (linkIn (M w) (currIn R) % 2 ≡ 1) → GoneSince M r (suc t) (askedIn R)
+      gone s (yes q) = (w, since⁺ (x .since), struck-gone (H .orderly w (omega (arith, x .since .upto))) (currIn R) (askedIn R) (x .on) q e)
+      gone s (no q) = let z = gone-since H₀ w (x .since .upto) (askedIn R) (x .on) (omega arith) e s in
           (z .0, record { after = omega (arith, z .1, x .since .after); upto = omega (arith, z .2) }, z .3)
 
   from-13 : Known (goesAt p13 (M t) p R)
   unfolding row wordMet placeOf
   from-13 = if-ne Known (R .kept .result) NoAnswer (λ e. absurd (e (k .blank)))
       (λ e. if-eq Known (R .kept .kind) Inserts (λ q. absurd (omega (arith, k .kind-is)))
-      (λ q. if Known (eqb (R .kept .kind) Deletes && not (eqb (R .kept .node .0) 0))
+      (λ q. if Known (eqb (R .kept .kind) Deletes && not (eqb (ownIn R) 0))
       (λ f. absurd (omega (
         arith,
-        eqb-true (R .kept .kind) Deletes (and-left (eqb (R .kept .kind) Deletes) (not (eqb (R .kept .node .0) 0)) f),
+        eqb-true (R .kept .kind) Deletes (and-left (eqb (R .kept .kind) Deletes) (not (eqb (ownIn R) 0)) f),
         k .kind-is,
       )))
-      (λ f. record { kept = k; place = λ u. find-19 (record { if-true = λ v. absurd (omega arith); if-false = λ v. absurd (omega arith) }) })))
+      (λ f. goes-to (find-19 (record { if-true = λ v. absurd (omega arith); if-false = λ v. absurd (omega arith) })))))
 
   from-19 : Known (goesAt p19 (M t) p R)
   unfolding row wordMet

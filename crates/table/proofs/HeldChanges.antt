@@ -1,14 +1,14 @@
 -- What a write does to the addresses held: a node put in adds exactly its address, a node struck removes exactly its address, and nothing else
 -- changes them. Rests on Effects and Moments.
-use Rattle.table.proofs.Common.{_≡_, refl, sym, _∙_, ap, _≢_, _⊎_, inl, inr, _↔_, false, ℕ, _+_, _%_, _≤_, _<_, arith, ℕ-discrete, node, Node}
-use Rattle.table.proofs.Common.{Address, Memory, isMarked, Write, written, givenOut, HeldBy, Held, follows}
+use Rattle.table.proofs.Common.{_≡_, refl, sym, _∙_, ap, _≢_, _⊎_, inl, inr, _↔_, ℕ, _+_, _%_, _≤_, _<_, arith, ℕ-discrete, node, Node}
+use Rattle.table.proofs.Common.{Address, Memory, Write, written, givenOut, HeldBy, Held, follows}
 use Rattle.table.proofs.Reaching.{once}
 use Rattle.table.proofs.Numbered.{linkIn, deleterIn, addressIn, rankIn, Used, On, plainTo, markedTo, linkSet, deleterSet, Marked, Plain}
 use Rattle.table.proofs.Numbered.{unmarked-plain, plain-unmarked, rank-inner, link-at, link-else, link-signed, address-written, within, nextIn}
 use Rattle.table.proofs.Numbered.{given-link, given-link-else, given-address-else, not-next}
 use Rattle.table.proofs.Effects.{Orderly, Keeps, Insertable, Does, owns, adds, cuts, strikes, signs, add-on, does-keeps, IsAdds, does-new}
 use Rattle.table.proofs.Effects.{given-back, given-keeps}
-use Rattle.table.proofs.Moments.{inner, held, between}
+use Rattle.table.proofs.Moments.{between}
 
 module _ (m m′ : Memory) where
   pub record KeepsHeld : Type 0 where
@@ -18,9 +18,6 @@ module _ (m m′ : Memory) where
 
   -- node n is put in, for the address a
   pub record PutsHeld (n a : ℕ) : Type 0 where
-    pub inner : 2 ≤ n
-    pub was-plain : Plain m n
-    pub was-off : On m n → ⊥
     pub on : On m′ n
     pub free : Held m a → ⊥
     pub adds : (x : ℕ) → Held m′ x ↔ ((x ≡ a) ⊎ Held m x)
@@ -37,25 +34,25 @@ module _ (m m′ : Memory) where
 
 -- ---- held before and after
 
-module _ (N : ℕ) (m m′ : Memory) (i : Orderly N m) (kp : Keeps m m′) (ad : (x : ℕ) → On m x → addressIn m′ x ≡ addressIn m x) where
+module _ {N : ℕ} {m m′ : Memory} (i : Orderly N m) (kp : Keeps m m′) (ad : (x : ℕ) → On m x → addressIn m′ x ≡ addressIn m x) where
   held-after : (x : ℕ) (y : Node) → HeldBy m x y → Plain m′ (y .0) → HeldBy m′ x y
   held-after x y h pl = record {
-    on = go (kp .stays (y .0) (h .on));
+    on = elim (kp .stays (y .0) (h .on)) [ inl o ↦ o | inr s ↦ absurd (omega (arith, s .0, unmarked-plain m (y .0) (h .plain))) ];
     inner = h .inner;
     plain = plain-unmarked m′ (y .0) pl;
     named = ad (y .0) (h .on) ∙ h .named;
   }
-    where
-      go : On m′ (y .0) ⊎ (Marked m (y .0) × (linkIn m′ (y .0) ≡ linkIn m (y .0))) → On m′ (y .0)
-      go (inl o) = o
-      go (inr s) = absurd (omega (arith, s .0, unmarked-plain m (y .0) (h .plain)))
 
   held-before : (x : ℕ) (y : Node) → HeldBy m′ x y → On m (y .0) → HeldBy m x y
-  held-before x y h o = record { on = o; inner = h .inner; plain = pl (ℕ-discrete (linkIn m (y .0) % 2) 1); named = sym (ad (y .0) o) ∙ h .named }
-    where
-      pl : Dec (Marked m (y .0)) → isMarked (linkIn m (y .0)) ≡ false
-      pl (yes z) = absurd (omega (arith, kp .frozen (y .0) (i .used (y .0) o) z, unmarked-plain m′ (y .0) (h .plain)))
-      pl (no z) = plain-unmarked m (y .0) (omega arith)
+  held-before x y h o = record {
+    on = o;
+    inner = h .inner;
+    plain = elim (ℕ-discrete (linkIn m (y .0) % 2) 1) [
+      | yes z ↦ absurd (omega (arith, kp .frozen (y .0) (i .used (y .0) o) z, unmarked-plain m′ (y .0) (h .plain)))
+      | no z ↦ plain-unmarked m (y .0) (omega arith)
+    ];
+    named = sym (ad (y .0) o) ∙ h .named;
+  }
 
   same-held : ((y : ℕ) → On m′ y → On m y) → ((y : ℕ) → On m y → Plain m y → Plain m′ y) → (x : ℕ) → Held m′ x ↔ Held m x
   same-held b f x = (
@@ -65,26 +62,28 @@ module _ (N : ℕ) (m m′ : Memory) (i : Orderly N m) (kp : Keeps m m′) (ad :
 
 -- ---- a write
 
-module _ (N : ℕ) (m : Memory) (i : Orderly N m) where
+pub rests-held : (m : Memory) → KeepsHeld m m
+rests-held m = record { same = λ x. ((λ h. h), (λ h. h)); chain = λ y o. o; plain = λ y h. h }
+
+module _ {N : ℕ} {m : Memory} (i : Orderly N m) where
   -- an even word is written
   plain-after : (a w : ℕ) → Used m a → w % 2 ≡ 0 → (y : ℕ) → Plain m y → Plain (written (linkSet a w) m) y
-  plain-after a w u ev y h = go (ℕ-discrete y a)
-    where
-      go : Dec (y ≡ a) → Plain (written (linkSet a w) m) y
-      go (yes q) = omega (arith, ap (linkIn (written (linkSet a w) m)) q, link-at m a w (omega (arith, within (i .room) a u, i .room .links)))
-      go (no q) = omega (arith, link-else m a w y q)
+  plain-after a w u ev y h = elim (ℕ-discrete y a) [
+    | yes q ↦ omega (arith, ap (linkIn (written (linkSet a w) m)) q, link-at m a w (omega (arith, within (i .room) a u, i .room .links)))
+    | no q ↦ omega (arith, link-else m a w y q)
+  ]
 
   module _ {p n k : ℕ} {f : Write} (d : Does m p n k f) where
     kept : Keeps m (written f m)
-    kept = does-keeps N m i d .1
+    kept = does-keeps i d .1
 
     address-kept : (x : ℕ) → On m x → addressIn (written f m) x ≡ addressIn m x
     address-kept x o = address-written f m x
 
     keeps : ((y : ℕ) → On m y ⊎ ((y ≡ n) × IsAdds d) → On m y) → ((y : ℕ) → Plain m y → Plain (written f m) y) → KeepsHeld m (written f m)
     keeps b g = record {
-      same = same-held N m (written f m) i kept address-kept (λ y o. b y (does-new N m i d o)) (λ y o. g y);
-      chain = λ y o. b y (does-new N m i d o);
+      same = same-held i kept address-kept (λ y o. b y (does-new i d o)) (λ y o. g y);
+      chain = λ y o. b y (does-new i d o);
       plain = g;
     }
 
@@ -95,13 +94,10 @@ module _ (N : ℕ) (m : Memory) (i : Orderly N m) where
   -- a new node is put in
   pub adds-held : (n a c : ℕ) → Insertable m n a c → PutsHeld m (written (linkSet a (plainTo n)) m) n (addressIn m n)
   adds-held n a c v = record {
-    inner = v .inner;
-    was-plain = omega (arith, v .word);
-    was-off = v .new;
     on = on;
-    free = between N m i a (addressIn m n) (v .on) (omega (arith, rn, v .above)) (omega (arith, rn, ap (rankIn m) ac, v .under));
-    adds = λ x. ((λ z. from x (z .0) (z .1) (does-new N m i d (z .1 .on))), (λ z. into x z));
-    chain = λ y z. fresh y (does-new N m i d z);
+    free = between i a (addressIn m n) (v .on) (omega (arith, rn, v .above)) (omega (arith, rn, ap (rankIn m) ac, v .under));
+    adds = λ x. ((λ z. from x (z .0) (z .1) (does-new i d (z .1 .on))), (λ z. into x z));
+    chain = λ y z. fresh y (does-new i d z);
     plain = λ y h. plain-after a (plainTo n) (i .used a (v .on)) (omega arith) y h;
   }
     where
@@ -122,11 +118,11 @@ module _ (N : ℕ) (m : Memory) (i : Orderly N m) where
       ac = omega (arith, v .before)
 
       on : On (written (linkSet a (plainTo n)) m) n
-      on = add-on N m i a n c v
+      on = add-on i a n c v
 
       from : (x : ℕ) (y : Node) → HeldBy (written (linkSet a (plainTo n)) m) x y → On m (y .0) ⊎ ((y .0 ≡ n) × Unit {0})
           → (x ≡ addressIn m n) ⊎ Held m x
-      from x y z (inl q) = inr (y, held-before N m (written (linkSet a (plainTo n)) m) i (kept d) (address-kept d) x y z q)
+      from x y z (inl q) = inr (y, held-before i (kept d) (address-kept d) x y z q)
       from x y z (inr q) = inl (sym (z .named) ∙ address-written (linkSet a (plainTo n)) m (y .0) ∙ ap (addressIn m) (q .0))
 
       na : n ≢ a
@@ -144,7 +140,7 @@ module _ (N : ℕ) (m : Memory) (i : Orderly N m) where
       )
       into x (inr z) = (
         z .0,
-        held-after N m (written (linkSet a (plainTo n)) m) i (kept d) (address-kept d) x (z .0) (z .1)
+        held-after i (kept d) (address-kept d) x (z .0) (z .1)
             (plain-after a (plainTo n) (i .used a (v .on)) (omega arith) (z .0 .0) (unmarked-plain m (z .0 .0) (z .1 .plain))),
       )
 
@@ -153,8 +149,8 @@ module _ (N : ℕ) (m : Memory) (i : Orderly N m) where
   strikes-held c s h o e = record {
     held = record { on = o; inner = h; plain = plain-unmarked m c (omega arith); named = refl };
     marked = omega (arith, lc);
-    removes = λ x. ((λ z. from x (z .0) (z .1) (old 0 (z .0 .0) (does-new N m i d (z .1 .on)))), (λ z. into x (z .0) (z .1)));
-    chain = λ y z. old 0 y (does-new N m i d z);
+    removes = λ x. ((λ z. from x (z .0) (z .1) (old 0 (z .0 .0) (does-new i d (z .1 .on)))), (λ z. into x (z .0) (z .1)));
+    chain = λ y z. old 0 y (does-new i d z);
     plain = λ y ne h. omega (arith, link-else m c (markedTo s) y ne);
   }
     where
@@ -171,7 +167,7 @@ module _ (N : ℕ) (m : Memory) (i : Orderly N m) where
       from x y z q = ((λ w. nc (same w)), (y, hy))
         where
           hy : HeldBy m x y
-          hy = held-before N m m′ i (kept d) (address-kept d) x y z q
+          hy = held-before i (kept d) (address-kept d) x y z q
 
           nc : y .0 ≢ c
           nc w = absurd (omega (arith, ap (linkIn m′) w, unmarked-plain m′ (y .0) (z .plain), lc))
@@ -182,7 +178,7 @@ module _ (N : ℕ) (m : Memory) (i : Orderly N m) where
       into : (x : ℕ) → x ≢ addressIn m c → Held m x → Held m′ x
       into x ne z = (
         z .0,
-        held-after N m m′ i (kept d) (address-kept d) x (z .0) (z .1) (omega (
+        held-after i (kept d) (address-kept d) x (z .0) (z .1) (omega (
           arith,
           link-else m c (markedTo s) (z .0 .0) (λ w. ne (sym (z .1 .named) ∙ ap (addressIn m) w)),
           unmarked-plain m (z .0 .0) (z .1 .plain),
@@ -190,8 +186,6 @@ module _ (N : ℕ) (m : Memory) (i : Orderly N m) where
       )
 
   -- the other writes
-  pub rests-held : KeepsHeld m m
-  rests-held = record { same = λ x. ((λ h. h), (λ h. h)); chain = λ y o. o; plain = λ y h. h }
 
   pub owns-held : (n w : ℕ) → 2 ≤ n → Used m n → (On m n → ⊥) → Plain m n → w % 2 ≡ 0 → KeepsHeld m (written (linkSet n w) m)
   owns-held n w a b c g e = let d : Does m 0 n 0 (linkSet n w) = owns w a b c g e in keeps d (old n) (λ y h. plain-after n w b e y h)
@@ -207,9 +201,9 @@ module _ (N : ℕ) (m : Memory) (i : Orderly N m) where
   -- a node given out changes nothing held
   pub given-held : (a : Address) → nextIn m < N → KeepsHeld m (givenOut a m)
   given-held a rm = record {
-    same = same-held N m (givenOut a m) i (given-keeps N m i a rm .1) (λ x o. given-address-else a m x (nc x o)) (λ y o. given-back N m i a rm o)
+    same = same-held i (given-keeps i a rm .1) (λ x o. given-address-else a m x (nc x o)) (λ y o. given-back i a rm o)
         (λ y o h. omega (arith, given-link-else a m y (nc y o)));
-    chain = λ y o. given-back N m i a rm o;
+    chain = λ y o. given-back i a rm o;
     plain = λ y h. pl y h (ℕ-discrete y (nextIn m));
   }
     where

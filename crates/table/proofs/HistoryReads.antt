@@ -1,9 +1,9 @@
 -- The history of a run, read: its operations are those that Run names, and every answer that changes nothing has a witness.
 -- Rests on OpenOperations and OrderNeeds.
-use mathlib.Core.Path.{_≡_, refl, sym, _∙_, ap, subst}
+use mathlib.Core.Option.{Option·some-ne-none, Option·some-injective, Option, some}
+use mathlib.Core.Path.{_≡_, refl, sym, _∙_, ap}
 use mathlib.Core.Logic.{_≢_, _⊎_, inl, inr}
-use mathlib.Core.Option.{Option, some}
-use Prim.Native.Nat.{ℕ, _≤_, _<_}
+use Prim.Native.Nat.{ℕ, zero, suc, _≤_, _<_}
 use native.Mathlib.Omega.{arith}
 use native.Mathlib.Decide.{ℕ-discrete}
 use Rattle.record.specs.Record.{address, Inserts, Deletes, Finds, False, True, Fail}
@@ -19,20 +19,21 @@ use Rattle.table.specs.Chain.{Held}
 use Rattle.table.specs.History.{Kind, insert, delete, find, Answer, Operation, Set}
 use Rattle.table.specs.Demand3.{requestOf, ifAccepted, operation, history}
 use Rattle.table.proofs.OrderNeeds.{Tells, Witness}
-use Rattle.table.proofs.Known.{Since, HeldSince, GoneSince, FindSays}
-use Rattle.table.proofs.Run.{Run, memoryAt, recordThen, outcomeAt, processAt, kindAt, addressAsked, askedAt, IsOperation, answerTo, some-not-none, some-same}
-use Rattle.table.proofs.OpenOperations.{AnsweredAt, answered, value-true, insert-known, delete-known, find-known, insert-says, delete-says, find-says}
+use Rattle.table.proofs.Known.{Since, HeldSince, GoneSince, FindSays, insert-known, delete-known, find-known, insert-says, delete-says}
+use Rattle.table.proofs.Known.{find-says}
+use Rattle.table.proofs.Run.{Run, memoryAt, recordThen, outcomeAt, processAt, kindAt, addressAsked, askedAt, IsOperation, answerTo}
+use Rattle.table.proofs.OpenOperations.{AnsweredAt, answered, value-true}
 
 -- ---- operations
 
--- what an event asks for; a find of 0 where it is no request
+-- what an event asks for, by its kind's number; a find of 0 where it is no request
+abbrev kindNumbered : ℕ → Kind
+kindNumbered zero = insert
+kindNumbered (suc zero) = delete
+kindNumbered (suc (suc k)) = find
+
 abbrev pub kindAsked : Event → Kind
-kindAsked (Insert p a) = insert
-kindAsked (Delete p a) = delete
-kindAsked (Find p a) = find
-kindAsked (Step p) = find
-kindAsked (Stop p) = find
-kindAsked (Restart p) = find
+kindAsked ev = kindNumbered (kindOf ev)
 
 abbrev pub operationFor : Event → Option Answer → Operation
 operationFor ev v = record { process = processOf ev; kind = kindAsked ev; address = address (addressAsked ev); answer = v }
@@ -49,64 +50,43 @@ request-is : (ev : Event) (v : Option Answer) (o : Operation) → requestOf ev v
 request-is (Insert p a) v o q = omega arith
 request-is (Delete p a) v o q = omega arith
 request-is (Find p a) v o q = omega arith
-request-is (Step p) v o q = absurd (some-not-none o (sym q))
-request-is (Stop p) v o q = absurd (some-not-none o (sym q))
-request-is (Restart p) v o q = absurd (some-not-none o (sym q))
+request-is (Step p) v o q = absurd (Option·some-ne-none o (sym q))
+request-is (Stop p) v o q = absurd (Option·some-ne-none o (sym q))
+request-is (Restart p) v o q = absurd (Option·some-ne-none o (sym q))
 
 accepted-is : (x : Outcome) (q : Option Operation) (o : Operation) → ifAccepted x q ≡ some o → (x ≡ Accepted) × (q ≡ some o)
-accepted-is (Refused n) q o h = absurd (some-not-none o (sym h))
+accepted-is (Refused n) q o h = absurd (Option·some-ne-none o (sym h))
 accepted-is Accepted q o h = (refl, h)
-accepted-is (Answered n) q o h = absurd (some-not-none o (sym h))
-
-pub kind-inserts : (ev : Event) → kindAsked ev ≡ insert → kindOf ev ≡ Inserts
-kind-inserts (Insert p a) q = refl
-kind-inserts (Delete p a) q = cc
-kind-inserts (Find p a) q = cc
-kind-inserts (Step p) q = cc
-kind-inserts (Stop p) q = cc
-kind-inserts (Restart p) q = cc
+accepted-is (Answered n) q o h = absurd (Option·some-ne-none o (sym h))
 
 pub kind-deletes : (ev : Event) → kindAsked ev ≡ delete → kindOf ev ≡ Deletes
-kind-deletes (Insert p a) q = cc
-kind-deletes (Delete p a) q = refl
-kind-deletes (Find p a) q = cc
-kind-deletes (Step p) q = cc
-kind-deletes (Stop p) q = cc
-kind-deletes (Restart p) q = cc
+kind-deletes ev = numbered (kindOf ev)
+  where
+    numbered : (k : ℕ) → kindNumbered k ≡ delete → k ≡ Deletes
+    numbered zero q = cc
+    numbered (suc zero) q = refl
+    numbered (suc (suc k)) q = cc
 
 pub asks-insert : (ev : Event) → kindOf ev ≡ Inserts → kindAsked ev ≡ insert
-asks-insert (Insert p a) q = refl
-asks-insert (Delete p a) q = absurd (omega arith)
-asks-insert (Find p a) q = absurd (omega arith)
-asks-insert (Step p) q = absurd (omega arith)
-asks-insert (Stop p) q = absurd (omega arith)
-asks-insert (Restart p) q = absurd (omega arith)
+asks-insert ev q = ap kindNumbered q
 
 pub asks-delete : (ev : Event) → kindOf ev ≡ Deletes → kindAsked ev ≡ delete
-asks-delete (Insert p a) q = absurd (omega arith)
-asks-delete (Delete p a) q = refl
-asks-delete (Find p a) q = absurd (omega arith)
-asks-delete (Step p) q = absurd (omega arith)
-asks-delete (Stop p) q = absurd (omega arith)
-asks-delete (Restart p) q = absurd (omega arith)
+asks-delete ev q = ap kindNumbered q
 
 asks-find : (ev : Event) → kindOf ev ≡ Finds → kindAsked ev ≡ find
-asks-find (Insert p a) q = absurd (omega arith)
-asks-find (Delete p a) q = absurd (omega arith)
-asks-find (Find p a) q = refl
-asks-find (Step p) q = refl
-asks-find (Stop p) q = refl
-asks-find (Restart p) q = refl
+asks-find ev q = ap kindNumbered q
 
 module _ (ρ : Run) where
   abbrev M : ℕ → Memory
   M = memoryAt ρ
 
   pub operation-asked : (T r : ℕ) → IsOperation ρ r → operation (ρ .start) (ρ .events) T r ≡ some (operationFor (ρ .events r) (answerTo ρ T r))
-  operation-asked T r is = ap (λ x. ifAccepted x (requestOf (ρ .events r) (answerTo ρ T r))) (is .accepted) ∙ request-asked (ρ .events r) (answerTo ρ T r) (is .request)
+  operation-asked T r is = ap (λ x. ifAccepted x (requestOf (ρ .events r) (answerTo ρ T r))) (is .accepted)
+      ∙ request-asked (ρ .events r) (answerTo ρ T r) (is .request)
 
-  pub operation-is : (T r : ℕ) (o : Operation) → operation (ρ .start) (ρ .events) T r ≡ some o → IsOperation ρ r × (o ≡ operationFor (ρ .events r) (answerTo ρ T r))
-  operation-is T r o q = (is, some-same o (operationFor (ρ .events r) (answerTo ρ T r)) (sym q ∙ operation-asked T r is))
+  pub operation-is : (T r : ℕ) (o : Operation) → operation (ρ .start) (ρ .events) T r ≡ some o
+      → IsOperation ρ r × (o ≡ operationFor (ρ .events r) (answerTo ρ T r))
+  operation-is T r o q = (is, Option·some-injective o (operationFor (ρ .events r) (answerTo ρ T r)) (sym q ∙ operation-asked T r is))
     where
       z : (outcomeAt ρ r ≡ Accepted) × (requestOf (ρ .events r) (answerTo ρ T r) ≡ some o)
       z = accepted-is (outcomeAt ρ r) (requestOf (ρ .events r) (answerTo ρ T r)) o q
@@ -133,38 +113,34 @@ module _ (ρ : Run) where
     abbrev R : Record
     R = recordThen ρ (a .time) (processAt ρ r)
 
-    telling : (k : Kind) → kindAsked (ρ .events r) ≡ k → (w : ℕ) → Since r (a .time) w
-        → Tells k (a .value) (Held (M w) (askedAt ρ r)) → Told
+    telling : (k : Kind) → kindAsked (ρ .events r) ≡ k → (w : ℕ) → Since r (a .time) w → Tells k (a .value) (Held (M w) (askedAt ρ r)) → Told
     telling k q w s t = record {
       moment = w;
       begun = s .after;
       ended = s .upto;
       there = omega (arith, s .upto, x .1);
-      tells = subst (λ k. Tells k (a .value) (Held (M w) (askedAt ρ r))) (sym q) t;
+      tells = rw q t;
     }
 
     insert-told : kindAt ρ r ≡ Inserts → a .value ≡ False → Told
     insert-told k v = telling insert (asks-insert (ρ .events r) k) (z .0) (z .1) (v, z .2)
       where
         z : HeldSince M r (a .time) (askedAt ρ r)
-        z = subst (HeldSince M r (a .time)) (x .0 .busy .named)
-            (insert-says M r (a .time) p R (x .0 .place) (x .0 .status)
-            (insert-known M r (a .time) p R (ρ .events r) k (x .0 .busy .known)) .if-false (sym (x .0 .value) ∙ v) .1)
+        z = rw (x .0 .busy .named) at
+            (insert-says (x .0 .place) (x .0 .status) (insert-known k (x .0 .busy .known)) .if-false (sym (x .0 .value) ∙ v) .1)
 
     delete-told : kindAt ρ r ≡ Deletes → a .value ≡ False → Told
     delete-told k v = telling delete (asks-delete (ρ .events r) k) (z .0) (z .1) (v, z .2)
       where
         z : GoneSince M r (a .time) (askedAt ρ r)
-        z = subst (GoneSince M r (a .time)) (x .0 .busy .named)
-            (delete-says M r (a .time) p R (x .0 .place) (x .0 .status)
-            (delete-known M r (a .time) p R (ρ .events r) k (x .0 .busy .known)) .if-false (sym (x .0 .value) ∙ v) .1)
+        z = rw (x .0 .busy .named) at
+            (delete-says (x .0 .place) (x .0 .status) (delete-known k (x .0 .busy .known)) .if-false (sym (x .0 .value) ∙ v) .1)
 
     find-told : kindAt ρ r ≡ Finds → a .value ≢ Fail → Dec (a .value ≡ False) → Told
     find-told k n = by
       where
         says : FindSays M r (a .time) (askedAt ρ r) (R .lost .pending)
-        says = subst (λ y. FindSays M r (a .time) y (R .lost .pending)) (x .0 .busy .named)
-            (find-says M r (a .time) p R (x .0 .place) (x .0 .status) (find-known M r (a .time) p R (ρ .events r) k (x .0 .busy .known)))
+        says = rw (x .0 .busy .named) at (find-says (x .0 .place) (x .0 .status) (find-known k (x .0 .busy .known)))
 
         by : Dec (a .value ≡ False) → Told
         by (yes v) = let z = says .if-false (sym (x .0 .value) ∙ v) in telling find (asks-find (ρ .events r) k) (z .0) (z .1) (inr (v, z .2))
@@ -172,8 +148,7 @@ module _ (ρ : Run) where
             telling find (asks-find (ρ .events r) k) (z .0) (z .1) (inl (t, z .2))
 
     -- an operation answered true or false: an insert or a delete answered true, or it has a witness
-    pub true-or-told : a .value ≢ Fail
-        → ((a .value ≡ True) × ((kindAt ρ r ≡ Inserts) ⊎ (kindAt ρ r ≡ Deletes))) ⊎ Told
+    pub true-or-told : a .value ≢ Fail → ((a .value ≡ True) × ((kindAt ρ r ≡ Inserts) ⊎ (kindAt ρ r ≡ Deletes))) ⊎ Told
     true-or-told n = cases (ℕ-discrete (kindAt ρ r) Inserts) (ℕ-discrete (kindAt ρ r) Deletes) (ℕ-discrete (a .value) False)
       where
         cases : Dec (kindAt ρ r ≡ Inserts) → Dec (kindAt ρ r ≡ Deletes) → Dec (a .value ≡ False)

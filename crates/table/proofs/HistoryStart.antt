@@ -1,8 +1,8 @@
 -- Quiet states: a fresh list is one, with nothing held; and what a quiet state holds is a plain set, so that demand 3 always has a start.
--- A list of events, run, is the beginning of a sequence. Rests on Demand3 and Numbered.
-use mathlib.Core.Path.{_≡_, refl, sym, _∙_, ap, subst}
+-- A list of events, run, is the beginning of a sequence. Rests on Reaching and Numbered.
+use mathlib.Core.Path.{_≡_, refl, sym, _∙_, ap}
 use mathlib.Core.Logic.{_≢_, _⊎_, inl, inr}
-use mathlib.Core.Bool.{Bool, true, false, not, _&&_, _||_, false≢true}
+use mathlib.Core.Bool.{or-true, Bool, true, false, not, _&&_, _||_, false≢true}
 use mathlib.Core.List.{List, [], _∷_, List·Memᴰ, List·Memᴰ·head, List·Memᴰ·tail, List·Memᴰ·cases-cons, List·Memᴰ·not-nil}
 use Prim.Native.Nat.{ℕ, zero, suc, _+_, _-_, _≤_, _<_}
 use native.Mathlib.Omega.{arith}
@@ -20,21 +20,16 @@ use Rattle.table.specs.Chain.{Reach, here, next, OnChain, Held, follows,
 use Rattle.table.specs.Events.{State, recordIn, sizesFit, tablesFit, fresh, event, runs, outcomes}
 use Rattle.table.specs.History.{Set}
 use Rattle.table.specs.Demand3.{Quiet, at, out, IsHeld}
-use Rattle.table.proofs.Tests.{and-left}
+use Rattle.table.proofs.Tests.{by-test, each-true}
 use Rattle.table.proofs.Reaching.{front}
 use Rattle.table.proofs.Numbered.{rankIn, rank-inner, rank-head}
 
 -- ---- a fresh list
 
-zeros : (n x : ℕ) → _≡_ {A = ℕ} (getD (replicate n 0) x 0) 0
-zeros zero x = refl
-zeros (suc n) zero = refl
-zeros (suc n) (suc x) = zeros n x
-
-blanks : (n x : ℕ) → getD (replicate n freshRecord) x freshRecord ≡ freshRecord
-blanks zero x = refl
-blanks (suc n) zero = refl
-blanks (suc n) (suc x) = blanks n x
+all-the-same : {A : Type 0} (a : A) (n x : ℕ) → getD (replicate n a) x a ≡ a
+all-the-same a zero x = refl
+all-the-same a (suc n) zero = refl
+all-the-same a (suc n) (suc x) = all-the-same a n x
 
 module _ (nodes processes : ℕ) (fit : sizesFit nodes processes ≡ true) where
   abbrev m₀ : Memory
@@ -42,17 +37,12 @@ module _ (nodes processes : ℕ) (fit : sizesFit nodes processes ≡ true) where
 
   two : 2 ≤ nodes
   unfolding sizesFit
-  two = leb-true 2 nodes (and-left (leb 2 nodes) (leb nodes 4096) (and-left (leb 2 nodes && leb nodes 4096) (leb 1 processes)
-      (and-left (leb 2 nodes && leb nodes 4096 && leb 1 processes) (leb processes 64) fit)))
+  two = leb-true 2 nodes (each-true (leb 2 nodes) (leb nodes 4096 ∷ leb 1 processes ∷ leb processes 64 ∷ []) fit 0)
 
   two-nodes : {x : ℕ} → Reach (follows (freshMemory nodes)) 0 x → (x ≡ 0) ⊎ (x ≡ 1)
   unfolding freshMemory linkAt
   two-nodes (here q) = inl (sym q)
-  two-nodes (next {x = z} {y = y} r ne q) = step (two-nodes r)
-    where
-      step : (z ≡ 0) ⊎ (z ≡ 1) → (y ≡ 0) ⊎ (y ≡ 1)
-      step (inl w) = inr (sym q ∙ ap (follows (freshMemory nodes)) w)
-      step (inr w) = absurd (ne w)
+  two-nodes (next {x = z} {y = y} r ne q) = elim (two-nodes r) [ inl w ↦ inr (sym q ∙ ap (follows (freshMemory nodes)) w) | inr w ↦ absurd (ne w) ]
 
   fresh-tables : tablesFit nodes processes (freshMemory nodes) ≡ true
   unfolding tablesFit freshMemory
@@ -69,17 +59,17 @@ module _ (nodes processes : ℕ) (fit : sizesFit nodes processes ≡ true) where
   fresh-quiet = record {
     tables = fresh-tables;
     row = omega (arith, length-replicate {A = Record} processes freshRecord);
-    idle = λ p l. ap (λ r. r .kept .status) (blanks processes (p .0));
+    idle = λ p l. ap (λ r. r .kept .status) (all-the-same freshRecord processes (p .0));
     rises = λ n r ne. rises (n .0) ne (two-nodes r);
     used = λ n r. used (n .0) (two-nodes r);
-    small = λ n r. omega (arith, zeros nodes (n .0));
+    small = λ n r. omega (arith, all-the-same {A = ℕ} 0 nodes (n .0));
     head = refl;
     tail = refl;
-    unsigned = λ n r plain. zeros nodes (n .0);
+    unsigned = λ n r plain. all-the-same {A = ℕ} 0 nodes (n .0);
   }
     where
       rises : (x : ℕ) → x ≢ 1 → (x ≡ 0) ⊎ (x ≡ 1) → rankIn m₀ x < rankIn m₀ (follows m₀ x)
-      rises x ne (inl q) = subst (λ y. rankIn m₀ y < rankIn m₀ (follows m₀ y)) (sym q) (omega arith)
+      rises x ne (inl q) = rw q (omega arith)
       rises x ne (inr q) = absurd (ne q)
 
       used : (x : ℕ) → (x ≡ 0) ⊎ (x ≡ 1) → inUse (freshMemory nodes) (node x) ≡ true
@@ -105,28 +95,21 @@ module _ (m : Memory) (a : ℕ) where
   found : (n : Node) (l : List Node) → List·Memᴰ n l → isMarked (linkAt m n) ≡ false → addressAt m n ≡ a → holds m a l ≡ true
   unfolding holds
   found n [] i plain named = absurd (List·Memᴰ·not-nil i)
-  found n (x ∷ l) i plain named = cases (List·Memᴰ·cases-cons i) (λ j. found n l j plain named)
-    where
-      or-true : (b : Bool) → (b || true) ≡ true
-      or-true true = refl
-      or-true false = refl
-
-      cases : (n ≡ x) ⊎ List·Memᴰ n l → (List·Memᴰ n l → holds m a l ≡ true) → ((not (isMarked (linkAt m x)) && eqb (addressAt m x) a) || holds m a l) ≡ true
-      cases (inl q) later = rw (ap (λ y. isMarked (linkAt m y)) (sym q) ∙ plain, eq-eqb (addressAt m x) a (ap (addressAt m) (sym q) ∙ named)) refl
-      cases (inr j) later = rw (later j) (or-true (not (isMarked (linkAt m x)) && eqb (addressAt m x) a))
+  found n (x ∷ l) i plain named = elim (List·Memᴰ·cases-cons i) [
+    | inl q ↦ rw (ap (λ y. isMarked (linkAt m y)) (sym q) ∙ plain, eq-eqb (addressAt m x) a (ap (addressAt m) (sym q) ∙ named)) refl
+    | inr j ↦ rw (found n l j plain named) (or-true (not (isMarked (linkAt m x)) && eqb (addressAt m x) a))
+  ]
 
   holder : (l : List Node) → holds m a l ≡ true → (n : Node) × List·Memᴰ n l × (isMarked (linkAt m n) ≡ false) × (addressAt m n ≡ a)
   unfolding holds
   holder [] h = absurd (false≢true h)
-  holder (x ∷ l) h = here-or (isMarked (linkAt m x)) refl (ℕ-discrete (addressAt m x) a) (λ h′. let z = holder l h′ in (z .0, List·Memᴰ·tail (z .1), z .2, z .3))
-    where
-      Found : Type 0
-      Found = (n : Node) × List·Memᴰ n (x ∷ l) × (isMarked (linkAt m n) ≡ false) × (addressAt m n ≡ a)
-
-      here-or : (b : Bool) → isMarked (linkAt m x) ≡ b → Dec (addressAt m x ≡ a) → (holds m a l ≡ true → Found) → Found
-      here-or true q d later = later (rw q at h)
-      here-or false q (yes z) later = (x, List·Memᴰ·head refl, q, z)
-      here-or false q (no z) later = later (rw (q, ne-eqb (addressAt m x) a z) at h)
+  holder (x ∷ l) h =
+      let later : holds m a l ≡ true → (n : Node) × List·Memᴰ n (x ∷ l) × (isMarked (linkAt m n) ≡ false) × (addressAt m n ≡ a) =
+      λ h′. let z = holder l h′ in (z .0, List·Memᴰ·tail (z .1), z .2, z .3) in
+      by-test (isMarked (linkAt m x)) (λ q. later (rw q at h)) (λ q. elim (ℕ-discrete (addressAt m x) a) [
+        | yes z ↦ (x, List·Memᴰ·head refl, q, z)
+        | no z ↦ later (rw (q, ne-eqb (addressAt m x) a z) at h)
+      ])
 
 module _ (σ : State) (Q : Quiet σ) where
   abbrev m : Memory
@@ -143,11 +126,10 @@ module _ (σ : State) (Q : Quiet σ) where
   From n x = Reach (follows (σ .memory)) n x
 
   rank-low : (n : ℕ) → OnChain m (node n) → n ≢ 1 → rankOf n < aboveAll
-  rank-low n o t = cases (ℕ-discrete n 0)
-    where
-      cases : Dec (n ≡ 0) → rankOf n < aboveAll
-      cases (yes q) = omega (arith, ap (λ n. rankOf n) q, rank-head m)
-      cases (no q) = omega (arith, rank-inner m n (omega arith), Q .small (node n) o)
+  rank-low n o t = elim (ℕ-discrete n 0) [
+    | yes q ↦ omega (arith, ap (λ n. rankOf n) q, rank-head m)
+    | no q ↦ omega (arith, rank-inner m n (omega arith), Q .small (node n) o)
+  ]
 
   goes-on : (n : ℕ) → OnChain m (node n) → n ≢ 1 → onto n ≢ 1 → goesOn m (node n) (node (onto n)) ≡ true
   goes-on n o t g = rw (
@@ -161,33 +143,20 @@ module _ (σ : State) (Q : Quiet σ) where
   went-on false x n l q i = absurd (false≢true q)
 
   tail-ends : (x : ℕ) → From 1 x → x ≡ 1
-  tail-ends x r = first (front r)
-    where
-      first : (1 ≡ x) ⊎ ((_≢_ {A = ℕ} 1 1) × From (follows m 1) x) → x ≡ 1
-      first (inl q) = sym q
-      first (inr s) = absurd (s .0 refl)
+  tail-ends x r = elim (front r) [ inl q ↦ sym q | inr s ↦ absurd (s .0 refl) ]
 
   -- the walk from n meets every node reached from it, but n and tail
-  walk-meets : (k n x : ℕ) → OnChain m (node n) → aboveAll ≤ rankOf n + k → From n x → x ≢ n → x ≢ 1
-      → List·Memᴰ (node x) (walk k m (node n))
+  walk-meets : (k n x : ℕ) → OnChain m (node n) → aboveAll ≤ rankOf n + k → From n x → x ≢ n → x ≢ 1 → List·Memᴰ (node x) (walk k m (node n))
   unfolding walk
-  walk-meets zero n x o l r d t = first (front r)
-    where
-      first : (n ≡ x) ⊎ ((n ≢ 1) × From (onto n) x) → List·Memᴰ (node x) []
-      first (inl q) = absurd (d (sym q))
-      first (inr s) = absurd (omega (arith, rank-low n o (s .0)))
-  walk-meets (suc k) n x o l r d t = first (front r) (λ o′ l′ s d′. walk-meets k (onto n) x o′ l′ s d′ t)
-    where
-      first : (n ≡ x) ⊎ ((n ≢ 1) × From (onto n) x)
-          → (OnChain m (node (onto n)) → aboveAll ≤ rankOf (onto n) + k → From (onto n) x → x ≢ onto n → List·Memᴰ (node x) (walk k m (node (onto n))))
-          → List·Memᴰ (node x) (elim (goesOn m (node n) (node (onto n))) [ true ↦ node (onto n) ∷ walk k m (node (onto n)) | false ↦ [] ])
-      first (inl q) later = absurd (d (sym q))
-      first (inr s) later = went-on (goesOn m (node n) (node (onto n))) (node x) (node (onto n)) (walk k m (node (onto n)))
-          (goes-on n o (s .0) (λ q. t (tail-ends x (subst (λ n. From n x) q (s .1))))) (cases (ℕ-discrete x (onto n)))
-        where
-          cases : Dec (x ≡ onto n) → List·Memᴰ (node x) (node (onto n) ∷ walk k m (node (onto n)))
-          cases (yes q) = List·Memᴰ·head (ap (λ n. node n) q)
-          cases (no q) = List·Memᴰ·tail (later (next o (s .0) refl) (omega (arith, Q .rises (node n) o (s .0))) (s .1) q)
+  walk-meets zero n x o l r d t = elim (front r) [ inl q ↦ absurd (d (sym q)) | inr s ↦ absurd (omega (arith, rank-low n o (s .0))) ]
+  walk-meets (suc k) n x o l r d t = elim (front r) [
+    | inl q ↦ absurd (d (sym q))
+    | inr s ↦ went-on (goesOn m (node n) (node (onto n))) (node x) (node (onto n)) (walk k m (node (onto n)))
+        (goes-on n o (s .0) (λ q. t (tail-ends x (rw q at (s .1))))) (elim (ℕ-discrete x (onto n)) [
+          | yes q ↦ List·Memᴰ·head (ap (λ n. node n) q)
+          | no q ↦ List·Memᴰ·tail (walk-meets k (onto n) x (next o (s .0) refl) (omega (arith, Q .rises (node n) o (s .0))) (s .1) q t)
+        ])
+  ]
 
   -- and no others: they are on the chain, and neither head nor tail
   walk-on : (k n : ℕ) (x : Node) → OnChain m (node n) → n ≢ 1 → List·Memᴰ x (walk k m (node n)) → OnChain m x × (2 ≤ x .0)
@@ -199,21 +168,20 @@ module _ (σ : State) (Q : Quiet σ) where
       not-one true c d q = absurd (false≢true q)
       not-one false c d q = refl
 
-      goes : (b : Bool) → goesOn m (node n) (node (onto n)) ≡ b → List·Memᴰ x (elim b [ true ↦ node (onto n) ∷ walk k m (node (onto n)) | false ↦ [] ])
+      goes : (b : Bool) → goesOn m (node n) (node (onto n)) ≡ b
+          → List·Memᴰ x (elim b [ true ↦ node (onto n) ∷ walk k m (node (onto n)) | false ↦ [] ])
           → (onto n ≢ 1 → List·Memᴰ x (walk k m (node (onto n))) → OnChain m x × (2 ≤ x .0)) → OnChain m x × (2 ≤ x .0)
       goes false q j later = absurd (List·Memᴰ·not-nil j)
-      goes true q j later = cases (List·Memᴰ·cases-cons j)
+      goes true q j later = elim (List·Memᴰ·cases-cons j) [
+        | inl z ↦ rw z (next o t refl, omega (arith, not-tail, not-head))
+        | inr j′ ↦ later not-tail j′
+      ]
         where
           not-tail : onto n ≢ 1
-          not-tail = eqb-false (onto n) 1 (not-one (eqb (onto n) 1) (inUse m (node (onto n)))
-              (ltb (rankOf n) (rankOf (onto n))) q)
+          not-tail = eqb-false (onto n) 1 (not-one (eqb (onto n) 1) (inUse m (node (onto n))) (ltb (rankOf n) (rankOf (onto n))) q)
 
           not-head : onto n ≢ 0
           not-head z = absurd (omega (arith, Q .rises (node n) o t, ap (λ n. rankOf n) z, rank-head m))
-
-          cases : (x ≡ node (onto n)) ⊎ List·Memᴰ x (walk k m (node (onto n))) → OnChain m x × (2 ≤ x .0)
-          cases (inl z) = subst (λ x. OnChain m x × (2 ≤ x .0)) (sym z) (next o t refl, omega (arith, not-tail, not-head))
-          cases (inr j′) = later not-tail j′
 
   -- demand 3 has a start from every quiet state
   abbrev pub heldSet : Set
@@ -225,7 +193,8 @@ module _ (σ : State) (Q : Quiet σ) where
     (λ q. let z = holder m (a .0) (chain m) q in let on = walk-on aboveAll 0 (z .0) (here refl) (λ q. absurd (omega arith)) (z .1) in
         (z .0, record { on = on .0; inner = on .1; plain = z .2; named = z .3 })),
     (λ h. found m (a .0) (h .0) (chain m)
-        (walk-meets aboveAll 0 (h .0 .0) (here refl) (omega arith) (h .1 .on) (λ q. absurd (omega (arith, h .1 .inner))) (λ q. absurd (omega (arith, h .1 .inner))))
+        (walk-meets aboveAll 0 (h .0 .0) (here refl) (omega arith) (h .1 .on) (λ q. absurd (omega (arith, h .1 .inner)))
+        (λ q. absurd (omega (arith, h .1 .inner))))
         (h .1 .plain) (h .1 .named)),
   )
 
@@ -242,7 +211,8 @@ unfolding runs at
 runs-at [] σ d = refl
 runs-at (x ∷ es) σ d = at-next σ (λ t. getD (x ∷ es) t d) (length es) ∙ runs-at es (event σ x .after) d
 
-pub outcomes-at : (es : List Event) (σ : State) (d : Event) (o : Outcome) (t : ℕ) → t < length es → getD (outcomes σ es) t o ≡ out σ (λ t. getD es t d) t
+pub outcomes-at : (es : List Event) (σ : State) (d : Event) (o : Outcome) (t : ℕ) → t < length es
+    → getD (outcomes σ es) t o ≡ out σ (λ t. getD es t d) t
 unfolding outcomes out at
 outcomes-at [] σ d o t l = absurd (omega arith)
 outcomes-at (x ∷ es) σ d o zero l = refl

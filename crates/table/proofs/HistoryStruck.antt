@@ -2,11 +2,11 @@
 -- current. Rests on Winners and HistoryReads.
 use mathlib.Core.Path.{_≡_, refl, sym, _∙_, ap, subst}
 use mathlib.Core.Logic.{_≢_, _⊎_, inl, inr}
-use mathlib.Core.Bool.{Bool, true, false, false≢true}
+use mathlib.Core.Bool.{true, false, false≢true, Bool-discrete}
 use mathlib.Core.Option.{Option, none, some}
 use Prim.Native.Nat.{ℕ, zero, suc, _+_, _<_}
 use native.Mathlib.Omega.{arith}
-use Rattle.record.specs.Record.{node, process, address, Deletes, True}
+use Rattle.record.specs.Record.{node, process, address, True}
 use Rattle.record.specs.Event.{processOf}
 use Rattle.record.specs.declared.Node.{Node}
 use Rattle.record.specs.declared.Process.{Process}
@@ -16,12 +16,13 @@ use Rattle.table.specs.Chain.{Struck}
 use Rattle.table.specs.Events.{State}
 use Rattle.table.specs.History.{Kind, delete, Answer, Operation}
 use Rattle.table.specs.Demand3.{at, operation, Current, CurrentRelease, ReleasedBy, Marks, StruckOnce}
-use Rattle.table.proofs.Numbered.{deleterIn, struck-marked, unmarked-plain}
-use Rattle.table.proofs.Run.{Run, memoryAt, recordThen, processAt, kindAt, askedAt, addressAsked, IsOperation, answerTo}
+use Rattle.table.proofs.Tests.{not-true-false}
+use Rattle.table.proofs.Moments.{begins-between}
+use Rattle.table.proofs.Numbered.{ownIn, deleterIn, struck-marked, unmarked-plain}
+use Rattle.table.proofs.Run.{Run, memoryAt, recordThen, processAt, addressAsked, IsOperation, answerTo}
 use Rattle.table.proofs.RunInvariant.{Busy}
-use Rattle.table.proofs.HeldChanges.{TakesHeld}
-use Rattle.table.proofs.HeldByPlace.{actorNode, Changes, keeps-all, inserted, struck, changes}
-use Rattle.table.proofs.Deleters.{Deleting, OpenOrTrue, SignedBy}
+use Rattle.table.proofs.HeldByPlace.{StruckBy, Changes, keeps-all, inserted, struck, changes}
+use Rattle.table.proofs.Deleters.{Deleting, SignedBy}
 use Rattle.table.proofs.Winners.{marker-open, signer, signer-open-or-true, Won, won-once, Strikes, strikes-now}
 use Rattle.table.proofs.HistoryReads.{kindAsked, operationFor, kind-deletes, asks-delete, operation-asked, operation-is}
 
@@ -37,26 +38,30 @@ module _ (ρ : Run) where
 
   operation-of : (T s p r : ℕ) (v : Option Answer) → Busy ρ s p r → answerTo ρ T r ≡ v
       → operation (ρ .start) (ρ .events) T r ≡ some (asked p r (kindAsked (ρ .events r)) v)
-  operation-of T s p r v b h = operation-asked ρ T r (b .is)
-      ∙ (λ i. some (asked (b .by i) r (kindAsked (ρ .events r)) (h i)))
+  operation-of T s p r v b h = operation-asked ρ T r (b .is) ∙ (λ i. some (asked (b .by i) r (kindAsked (ρ .events r)) (h i)))
 
   abbrev current : (T p r : ℕ) → Busy ρ T p r → Current (ρ .start) (ρ .events) T (process p) r
   current T p r b =
-      record { before = b .before; kind = kindAsked (ρ .events r); address = address (addressAsked (ρ .events r)); asked = operation-of T T p r none b (b .opened) }
+      record {
+        before = b .before;
+        kind = kindAsked (ρ .events r);
+        address = address (addressAsked (ρ .events r));
+        asked = operation-of T T p r none b (b .opened);
+      }
 
-  current-release : (T n p r : ℕ) → Deleting ρ T p r → recordThen ρ T p .kept .node .0 ≡ n → CurrentRelease (ρ .start) (ρ .events) T (node n) (process p) r
-  current-release T n p r d nd =
-      record { current = current T p r (d .busy); deletes = asks-delete (ρ .events r) (d .kind); node = λ i. record { 0 = nd i } }
+  current-release : (T n p r : ℕ) → Deleting ρ T p r → ownIn (recordThen ρ T p) ≡ n → CurrentRelease (ρ .start) (ρ .events) T (node n) (process p) r
+  current-release T n p r d node-is =
+      record { current = current T p r (d .busy); deletes = asks-delete (ρ .events r) (d .kind); node = λ i. record { 0 = node-is i } }
 
-  released : (T s n p r : ℕ) (a : Answer) → Deleting ρ s p r → answerTo ρ T r ≡ some a → a .value ≡ True → recordThen ρ (a .time) p .kept .node .0 ≡ n
+  released : (T s n p r : ℕ) (a : Answer) → Deleting ρ s p r → answerTo ρ T r ≡ some a → a .value ≡ True → ownIn (recordThen ρ (a .time) p) ≡ n
       → ReleasedBy (ρ .start) (ρ .events) T (node n) r
-  released T s n p r a d h v nd = record {
+  released T s n p r a d h v node-is = record {
     process = process p;
     address = address (addressAsked (ρ .events r));
     time = a .time;
     asked = operation-of T s p r (some (record { time = a .time; value = True })) (d .busy) (h ∙ (λ i. some (record { time = a .time; value = v i })))
         ∙ (λ i. some (asked p r (asks-delete (ρ .events r) (d .kind) i) (some (record { time = a .time; value = True }))));
-    node = λ i. record { 0 = nd i };
+    node = λ i. record { 0 = node-is i };
   }
 
   -- ---- at most one release is answered true
@@ -67,7 +72,7 @@ module _ (ρ : Run) where
     kind = kind-deletes (ρ .events r) (sym (ap (λ o. o .kind) (z .1)));
     answer = sym (ap (λ o. o .answer) (z .1));
     value = refl;
-    node = ap (λ p. recordThen ρ (x .time) p .kept .node .0) (sym (ap (λ o. o .process .0) (z .1))) ∙ ap (λ n. n .0) (x .node);
+    node = ap (λ p. ownIn (recordThen ρ (x .time) p)) (sym (ap (λ o. o .process .0) (z .1))) ∙ ap (λ n. n .0) (x .node);
   }
     where
       o : Operation
@@ -85,27 +90,29 @@ module _ (ρ : Run) where
         × (deleterIn (M T) (n .0) ≡ noDeleter → CurrentRelease (ρ .start) (ρ .events) T n (processOf (ρ .events t)) r))
 
     -- the strike of n, by the delete r
-    module _ (r : ℕ) (b : Busy ρ t (processAt ρ t) r) (k : kindAt ρ r ≡ Deletes) (nd : actorNode ρ t ≡ n .0)
-        (takes : TakesHeld (M t) (M (suc t)) (n .0) (askedAt ρ r)) where
+    module _ (r : ℕ) (s : StruckBy ρ t r (n .0)) where
       -- a deleter: its release is open, or answered true
       signer-settled : (p : ℕ) → deleterIn (M T) (n .0) ≡ p + 1 → Settled r
-      signer-settled p q = cases (signer-open-or-true ρ T t r (n .0) before b k nd takes p x)
+      signer-settled p q = elim (signer-open-or-true ρ T before s p x) [
+        | inl y ↦ inr (
+          (λ p′ z. (
+            x .op,
+            subst (λ p. CurrentRelease (ρ .start) (ρ .events) T n (process p) (x .op)) (same p′ z)
+                (current-release T (n .0) p (x .op) (y .0) (y .1)),
+          )),
+          (λ z. absurd (omega arith)),
+        )
+        | inr y ↦ inl (x .op, released T (x .at-event) (n .0) p (x .op) (y .0) (x .deleting) (y .1) (y .2) (y .3))
+      ]
         where
           x : SignedBy ρ t T (n .0) p
-          x = signer ρ T t r (n .0) before b k nd takes p q
+          x = signer ρ T before s p q
 
           same : (p′ : Process) → deleterIn (M T) (n .0) ≡ deleterWord p′ → p ≡ p′ .0
           same p′ z = omega arith
 
-          cases : OpenOrTrue ρ p (x .op) (n .0) T → Settled r
-          cases (inl y) = inr (
-            (λ p′ z. (x .op, subst (λ p. CurrentRelease (ρ .start) (ρ .events) T n (process p) (x .op)) (same p′ z) (current-release T (n .0) p (x .op) (y .0) (y .1)))),
-            (λ z. absurd (omega arith)),
-          )
-          cases (inr y) = inl (x .op, released T (x .at-event) (n .0) p (x .op) (y .0) (x .deleting) (y .1) (y .2) (y .3))
-
       settled : (v : ℕ) → deleterIn (M T) (n .0) ≡ v → Settled r
-      settled zero q = let y = marker-open ρ T t r (n .0) before b k nd takes q in
+      settled zero q = let y = marker-open ρ T before s q in
           inr ((λ p z. absurd (omega arith)), (λ z. current-release T (n .0) (processAt ρ t) r (y .0) (y .1)))
       settled (suc p) q = signer-settled p (omega arith)
 
@@ -115,12 +122,8 @@ module _ (ρ : Run) where
       where
         by-change : (x : Changes ρ t) → Strikes ρ x (n .0) → (r : ℕ) × Current (ρ .start) (ρ .events) t (processOf (ρ .events t)) r × Settled r
         by-change (keeps-all h) z = absurd z
-        by-change (inserted r b k new puts) z = absurd z
-        by-change (struck r n′ b k nd takes) z = (
-          r,
-          current t (processAt ρ t) r b,
-          settled r b k (nd ∙ z) (subst (λ y. TakesHeld (M t) (M (suc t)) y (askedAt ρ r)) z takes) (deleterIn (M T) (n .0)) refl,
-        )
+        by-change (inserted r x) z = absurd z
+        by-change (struck r n′ s) z = (r, current t (processAt ρ t) r (s .busy), settled r (rw z at s) (deleterIn (M T) (n .0)) refl)
 
   pub struck-once : (T : ℕ) (n : Node) → StruckOnce (ρ .start) (ρ .events) T n
   struck-once T n = record {
@@ -133,10 +136,7 @@ module _ (ρ : Run) where
 pub struck-since : (σ₀ : State) (e : ℕ → Event) (T : ℕ) (n : Node) → isMarked (linkAt (σ₀ .memory) n) ≡ false → Struck (at σ₀ e T .memory) n
     → (t : ℕ) × (t < T) × Marks σ₀ e t n
 unfolding at
-struck-since σ₀ e zero n was is = absurd (false≢true (sym was ∙ is))
-struck-since σ₀ e (suc t) n was is = cases (isMarked (linkAt (at σ₀ e t .memory) n)) refl (struck-since σ₀ e t n was)
-  where
-    cases : (b : Bool) → isMarked (linkAt (at σ₀ e t .memory) n) ≡ b → (Struck (at σ₀ e t .memory) n → (s : ℕ) × (s < t) × Marks σ₀ e s n)
-        → (s : ℕ) × (s < suc t) × Marks σ₀ e s n
-    cases true q before = let x = before q in (x .0, omega (arith, x .1), x .2)
-    cases false q before = (t, omega arith, (q, is))
+struck-since σ₀ e T n was is =
+    let z = begins-between (λ t. Struck (at σ₀ e t .memory) n) (λ t. Bool-discrete (isMarked (linkAt (at σ₀ e t .memory) n)) true) 0 T (omega arith)
+    (λ s. false≢true (sym was ∙ s)) is in
+    (z .0, z .2, (not-true-false (isMarked (linkAt (at σ₀ e (z .0) .memory) n)) (z .3 .0), z .3 .1))

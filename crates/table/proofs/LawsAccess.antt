@@ -1,16 +1,15 @@
 -- "Each accepted step makes at most one access to a link or deleter word": which word, for each row; that a step depends on no other and writes
--- no other; and 01's sentence on the nodes that a row uses. Rests on the definitions alone.
+-- no other; and 01's sentence on the nodes that a row uses. Rests on Tests.
 use mathlib.Core.Path.{_≡_, refl}
-use mathlib.Core.Bool.{true, cond}
 use mathlib.Core.List.{List, [], _∷_, map}
 use Prim.Native.Nat.{ℕ}
 use lib.Dec.{eqb}
 use Rattle.record.specs.declared.Process.{Process}
 use Rattle.record.specs.declared.Record.{Record}
 use Rattle.table.specs.Words.{Memory, inUse, Write, nothing, linkIs, deleterIs, noDeleter}
-use Rattle.table.specs.Places.{Field, head, pred, curr, succ, own, nodeOf, linkOf, Row, readLink, writeLink, swapLink, readDeleter}
-use Rattle.table.specs.Places.{swapDeleter, writeNode, ownRecord, handOut, Place, placeOf, row}
-use Rattle.table.specs.Places.{p0, p1, p2, p3, p4, p5, p6, p7, p8, p9, p10, p11, p12, p13, p14, p15, p16, p17, p18, p19}
+use Rattle.table.specs.Places.{Field, head, pred, curr, succ, own, nodeOf, linkOf, Row, readLink, writeLink, swapLink, readDeleter, swapDeleter}
+use Rattle.table.specs.Places.{writeNode, ownRecord, handOut, Place, placeOf, row, p0, p1, p2, p3, p4, p5, p6, p7, p8, p9, p10, p11, p12, p13}
+use Rattle.table.specs.Places.{p14, p15, p16, p17, p18, p19}
 use Rattle.table.specs.Steps.{Meets, link, deleter, noWord, wordMet, accessOf, accessIn, turn, turnIn}
 use Rattle.table.proofs.Tests.{if}
 
@@ -65,5 +64,4 @@ access-writes-its-word p r (handOut answer after) w = writes-nothing refl
 
 pub step-writes-the-word-met : (m : Memory) (p : Process) (r : Record) → At r (accessIn m p r .meets) (turnIn m p r .writes)
 unfolding turnIn
-step-writes-the-word-met m p r =
-    access-writes-its-word p r (row (m .addresses) (placeOf (r .lost .place)) r) (wordMet m r (accessIn m p r .meets))
+step-writes-the-word-met m p r = access-writes-its-word p r (row (m .addresses) (placeOf (r .lost .place)) r) (wordMet m r (accessIn m p r .meets))

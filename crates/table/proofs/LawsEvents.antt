@@ -1,4 +1,4 @@
--- Laws of events: what a refusal leaves, whose record changes, what becomes of the count and of addresses. Rests on Meets.
+-- Laws of events: what a refusal leaves, whose record changes, what becomes of the count and of addresses. Rests on Meets and Numbered.
 use mathlib.Core.Path.{_≡_, refl, _∙_, ap}
 use mathlib.Core.Logic.{_≢_}
 use mathlib.Core.Bool.{true}
@@ -16,30 +16,31 @@ use Rattle.record.specs.declared.Event.{Event}
 use Rattle.record.specs.declared.Event.the-variants.{Insert, Delete, Find, Step, Stop, Restart}
 use Rattle.record.specs.declared.Outcome.{Outcome}
 use Rattle.record.specs.declared.Outcome.the-variants.{Refused, Accepted, Answered}
-use Rattle.table.specs.Words.{Memory, addressAt, inUse, givenOut, Write, nothing, linkIs, deleterIs, written}
+use Rattle.table.specs.Words.{Memory, addressAt, inUse, givenOut}
 use Rattle.table.specs.Places.{Row, readLink, writeLink, swapLink, readDeleter, swapDeleter, writeNode, ownRecord, handOut, row, placeOf}
 use Rattle.table.specs.Steps.{accessOf, turnIn}
 use Rattle.table.specs.Events.{Acted, acted, does, act, State, recordIn, Leaves, stored, event}
+use Rattle.table.proofs.Numbered.{addresses-written, count-written}
 use Rattle.table.proofs.Meets.{step-meets, insert-meets, act-meets, refused-stored, event-meets}
 
 -- ---- "nothing changed"
 
-never : {n : ℕ} → Accepted ≡ Refused n → ⊥
-never e = let z : _≡_ {A = ℕ} 0 1 = cc in omega arith
+pub accepted-not-refused : {n : ℕ} → Accepted ≡ Refused n → ⊥
+accepted-not-refused e = let z : _≡_ {A = ℕ} 0 1 = cc in omega arith
 
-never-answered : {n v : ℕ} → Answered v ≡ Refused n → ⊥
-never-answered e = let z : _≡_ {A = ℕ} 0 1 = cc in omega arith
+answered-not-refused : {n v : ℕ} → Answered v ≡ Refused n → ⊥
+answered-not-refused e = let z : _≡_ {A = ℕ} 0 1 = cc in omega arith
 
 -- an access refuses nothing by itself
-says-no-refusal : (p : Process) (r : Record) (x : Row) (n : ℕ) → accessOf p r x .says ≡ Refused n → ⊥
-says-no-refusal p r (readLink f follows) n e = never e
-says-no-refusal p r (writeLink f new after) n e = never e
-says-no-refusal p r (swapLink f old new done lost) n e = never e
-says-no-refusal p r (readDeleter f follows) n e = never e
-says-no-refusal p r (swapDeleter f after) n e = never e
-says-no-refusal p r (writeNode f after) n e = never e
-says-no-refusal p r (ownRecord after) n e = never e
-says-no-refusal p r (handOut answer after) n e = never-answered e
+pub says-no-refusal : (p : Process) (r : Record) (x : Row) (n : ℕ) → accessOf p r x .says ≡ Refused n → ⊥
+says-no-refusal p r (readLink f follows) n e = accepted-not-refused e
+says-no-refusal p r (writeLink f new after) n e = accepted-not-refused e
+says-no-refusal p r (swapLink f old new done lost) n e = accepted-not-refused e
+says-no-refusal p r (readDeleter f follows) n e = accepted-not-refused e
+says-no-refusal p r (swapDeleter f after) n e = accepted-not-refused e
+says-no-refusal p r (writeNode f after) n e = accepted-not-refused e
+says-no-refusal p r (ownRecord after) n e = accepted-not-refused e
+says-no-refusal p r (handOut answer after) n e = answered-not-refused e
 
 -- where an event was refused, the memory and the record are as they were
 abbrev Unchanged : Memory → Record → Acted → Type 0
@@ -50,15 +51,15 @@ refused-is m r n k e = ap (λ o. acted m r o) e
 
 does-refused : (nodes : ℕ) (m : Memory) (r : Record) (e : Event) → Unchanged m r (does nodes m r e)
 unfolding does turnIn
-does-refused nodes m r (Insert p a) = insert-meets (Unchanged m r) m r nodes p a (refused-is m r 3) (λ n e. absurd (never e))
-does-refused nodes m r (Delete p a) = λ n e. absurd (never e)
-does-refused nodes m r (Find p a) = λ n e. absurd (never e)
+does-refused nodes m r (Insert p a) = insert-meets (Unchanged m r) m r nodes p a (refused-is m r 3) (λ n e. absurd (accepted-not-refused e))
+does-refused nodes m r (Delete p a) = λ n e. absurd (accepted-not-refused e)
+does-refused nodes m r (Find p a) = λ n e. absurd (accepted-not-refused e)
 does-refused nodes m r (Step p) =
     step-meets (Unchanged m r) m r p
     (λ fits n e. absurd (says-no-refusal p r (row (m .addresses) (placeOf (r .lost .place)) r) n e))
     (refused-is m r 8)
-does-refused nodes m r (Stop p) = λ n e. absurd (never e)
-does-refused nodes m r (Restart p) = λ n e. absurd (never e)
+does-refused nodes m r (Stop p) = λ n e. absurd (accepted-not-refused e)
+does-refused nodes m r (Restart p) = λ n e. absurd (accepted-not-refused e)
 
 pub refused-act-changes-nothing : (nodes processes : ℕ) (m : Memory) (r : Record) (e : Event) (n : ℕ)
     → act nodes processes m r e .outcome ≡ Refused n → act nodes processes m r e ≡ acted m r (Refused n)
@@ -97,12 +98,6 @@ countAfter (Step p) o count = count
 countAfter (Stop p) o count = count
 countAfter (Restart p) o count = count
 
-count-written : (w : Write) (m : Memory) → written w m .count ≡ m .count
-unfolding written
-count-written nothing m = refl
-count-written (linkIs n word) m = refl
-count-written (deleterIs n word) m = refl
-
 abbrev Counts : Memory → Event → Acted → Type 0
 Counts m e d = d .memory .count ≡ countAfter e (d .outcome) (m .count)
 
@@ -124,8 +119,7 @@ does-counts nodes m r (Step p) = step-meets (Counts m (Step p)) m r p (λ fits. 
 does-counts nodes m r (Stop p) = refl
 does-counts nodes m r (Restart p) = refl
 
-pub only-inserts-move-the-count : (σ : State) (e : Event)
-    → event σ e .after .memory .count ≡ countAfter e (event σ e .outcome) (σ .memory .count)
+pub only-inserts-move-the-count : (σ : State) (e : Event) → event σ e .after .memory .count ≡ countAfter e (event σ e .outcome) (σ .memory .count)
 unfolding stored
 only-inserts-move-the-count σ e =
     let r = recordIn σ (processOf e) in
@@ -137,12 +131,6 @@ only-inserts-move-the-count σ e =
 
 -- ---- "address words, fixed while a node is in use"
 
-addresses-written : (w : Write) (m : Memory) → written w m .addresses ≡ m .addresses
-unfolding written
-addresses-written nothing m = refl
-addresses-written (linkIs n word) m = refl
-addresses-written (deleterIs n word) m = refl
-
 abbrev Fixed : Memory → Node → Acted → Type 0
 Fixed m n d = addressAt (d .memory) n ≡ addressAt m n
 
@@ -152,8 +140,7 @@ does-fixed nodes m r (Insert p a) n h =
     insert-meets (Fixed m n) m r nodes p a refl (getD-set-other (m .addresses) (m .count) (n .0) (a .0) 0 (λ e. omega arith))
 does-fixed nodes m r (Delete p a) n h = refl
 does-fixed nodes m r (Find p a) n h = refl
-does-fixed nodes m r (Step p) n h =
-    step-meets (Fixed m n) m r p (λ fits. ap (λ l. getD l (n .0) 0) (addresses-written (turnIn m p r .writes) m)) refl
+does-fixed nodes m r (Step p) n h = step-meets (Fixed m n) m r p (λ fits. ap (λ l. getD l (n .0) 0) (addresses-written (turnIn m p r .writes) m)) refl
 does-fixed nodes m r (Stop p) n h = refl
 does-fixed nodes m r (Restart p) n h = refl
 

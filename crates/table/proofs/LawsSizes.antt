@@ -1,15 +1,15 @@
 -- "The caller's table words beyond the stated sizes are never touched", and never read: an event sees only the words of nodes in use and the records
--- below the process count, so that longer tables change nothing but the length of what is left. Rests on Meets and LawsEvents.
+-- below the process count, so that longer tables change nothing but the length of what is left. Rests on Meets and Fitting.
 use mathlib.Core.Path.{_≡_, refl, sym, _∙_, ap, subst}
 use mathlib.Core.Logic.{_≢_}
 use mathlib.Core.Bool.{Bool, true, false, cond, not, _&&_, true≢false, false≢true}
-use mathlib.Core.List.{List, _++_}
-use Prim.Native.Nat.{ℕ, _+_, _≤_, _<_, _/_}
+use mathlib.Core.List.{List, [], _∷_, _++_}
+use Prim.Native.Nat.{ℕ, _+_, _≤_, _<_}
 use native.Mathlib.Omega.{arith}
 use lib.Dec.{leb, ltb, eqb}
 use lib.ListN.{length, getD, length-set, length-append, List·getD-append}
 use lib.Seq.{set-append-left}
-use borrow.Author.Tests.{ltb-true, ltb-false, leb-true, le-leb, eqb-false, le-ltb}
+use borrow.Author.Tests.{ltb-true, ltb-false, le-leb, eqb-false, le-ltb}
 use Rattle.record.specs.Record.{freshRecord, requested, Inserts}
 use Rattle.record.specs.Event.{processOf, refusalIn}
 use Rattle.record.specs.declared.Node.{Node}
@@ -19,14 +19,17 @@ use Rattle.record.specs.declared.Record.{Record}
 use Rattle.record.specs.declared.Event.{Event}
 use Rattle.record.specs.declared.Event.the-variants.{Insert, Delete, Find, Step, Stop, Restart}
 use Rattle.record.specs.declared.Outcome.the-variants.{Refused, Accepted}
-use Rattle.table.specs.Words.{Memory, memory, givenOut, nextNode, linkAt, deleterAt, inUse, rank, Write, nothing, linkIs, deleterIs, written, noDeleter, targetOf}
-use Rattle.table.specs.Places.{Field, head, pred, curr, succ, own, nodeOf, linkOf, goes, searchEnds, row, Place, placeOf}
-use Rattle.table.specs.Places.{Row, readLink, writeLink, swapLink, readDeleter, swapDeleter, writeNode, ownRecord, handOut}
-use Rattle.table.specs.Places.{p0, p1, p2, p3, p4, p5, p6, p7, p8, p9, p10, p11, p12, p13, p14, p15, p16, p17, p18, p19, off}
-use Rattle.table.specs.Steps.{Meets, link, deleter, wordMet, accessOf, inRange, usable, allUsable, Turn, turn, turnIn}
-use Rattle.table.specs.Events.{Acted, acted, refused, stepOf, does, sizesFit, tablesFit, act, State, stateOf, recordIn, Leaves, stored, event}
+use Rattle.table.specs.Words.{Memory, memory, givenOut, nextNode, linkAt, deleterAt, inUse, rank, Write, nothing, linkIs, deleterIs, written}
+use Rattle.table.specs.Words.{noDeleter, targetOf}
+use Rattle.table.specs.Places.{Field, head, pred, curr, succ, own, nodeOf, linkOf, searchEnds, row, Place, placeOf, Row, readLink, writeLink}
+use Rattle.table.specs.Places.{swapLink, readDeleter, swapDeleter, writeNode, ownRecord, handOut, p0, p1, p2, p3, p4, p5, p6, p7, p8, p9, p10}
+use Rattle.table.specs.Places.{p11, p12, p13, p14, p15, p16, p17, p18, p19, off}
+use Rattle.table.specs.Steps.{link, deleter, wordMet, accessOf, inRange, usable, allUsable, Turn, turn, turnIn}
+use Rattle.table.specs.Events.{Acted, acted, refused, stepOf, does, tablesFit, act, State, stateOf, recordIn, Leaves, stored, event}
+use Rattle.table.proofs.Numbered.{AsLong, as-long, written-as-long, given-as-long}
 use Rattle.table.proofs.Meets.{step-meets, insert-meets, act-judged, act-meets, refused-anywhere, event-meets}
-use Rattle.table.proofs.Tests.{if, and-left, and-right}
+use Rattle.table.proofs.Fitting.{room-of}
+use Rattle.table.proofs.Tests.{by-test, if, and-left, and-right}
 
 -- ---- two memories that agree on the nodes in use
 
@@ -59,15 +62,6 @@ field-in-use m r two pred e = ltb-true _ _ e
 field-in-use m r two curr e = ltb-true _ _ e
 field-in-use m r two succ e = ltb-true _ _ e
 field-in-use m r two own e = ltb-true _ _ (and-right (not (eqb (r .kept .node .0) 0)) _ e)
-
-last-two : (a b c : Bool) → (a && b && c) ≡ true → (b ≡ true) × (c ≡ true)
-last-two true true c e = (refl, e)
-last-two true false c e = absurd (false≢true e)
-last-two false b c e = absurd (false≢true e)
-
-cond-map : {A B : Type 0} (f : A → B) (b : Bool) {x y : B} {x′ y′ : A} → x ≡ f x′ → y ≡ f y′ → cond b x y ≡ f (cond b x′ y′)
-cond-map f true e h = e
-cond-map f false e h = h
 
 no-target : (a b t : Bool) → t ≡ false → (a && (b && (t && true) && true)) ≡ false
 no-target true true t e = rw e
@@ -112,11 +106,14 @@ module _ (m m′ : Memory) (same : Agree m m′) (p : Process) (r : Record) wher
 
   -- a row that is the same over both address tables
   same-row : (x : Row) → Same (turnOf m x) (turnOf m′ x)
-  same-row x = go (Uses x) refl
-    where
-      go : (b : Bool) → Uses x ≡ b → Same (turnOf m x) (turnOf m′ x)
-      go true e = same-is (λ i. turn (λ n. ltb (n .0) (same .counts i)) (word-same x e i) (accessOf p r x) r)
-      go false e = unusable x x refl e
+  same-row x = by-test (Uses x)
+      (λ e. same-is (λ i. turn (λ n. ltb (n .0) (same .counts i)) (word-same x e i) (accessOf p r x) r)) (λ e. unusable x x refl e)
+
+  -- two rows that use curr alone: the same where it is in use
+  uses-curr : (x y : Row) → accessOf p r x .uses ≡ (curr ∷ []) → accessOf p r y .uses ≡ (curr ∷ [])
+      → (usable (inUse m) r curr ≡ true → Same (turnOf m x) (turnOf m′ y)) → Same (turnOf m x) (turnOf m′ y)
+  uses-curr x y ux uy where-in-use = by-test (usable (inUse m) r curr) where-in-use
+      (λ e. unusable x y (ux ∙ sym uy) (ap (allUsable (inUse m) r) ux ∙ ap (λ b. b && true) e))
 
   rank-same : (n : Node) → n .0 < m .count → rank (m .addresses) n ≡ rank (m′ .addresses) n
   unfolding rank
@@ -129,39 +126,26 @@ module _ (m m′ : Memory) (same : Agree m m′) (p : Process) (r : Record) wher
 
   row-1-same : Same (turnOf m (row (m .addresses) p1 r)) (turnOf m′ (row (m′ .addresses) p1 r))
   unfolding row
-  row-1-same = go (usable (inUse m) r curr) refl
-    where
-      x : Row
-      x = row (m .addresses) p1 r
-
-      y : Row
-      y = row (m′ .addresses) p1 r
-
-      go : (b : Bool) → usable (inUse m) r curr ≡ b → Same (turnOf m x) (turnOf m′ y)
-      go true e = subst (λ z. Same (turnOf m x) (turnOf m′ z)) (row-1-is (field-in-use m r (same .two) curr e)) (same-row x)
-      go false e = unusable x y refl (ap (λ b. b && true) e)
+  row-1-same = let x = row (m .addresses) p1 r in uses-curr x (row (m′ .addresses) p1 r) refl refl (λ e.
+      subst (λ y. Same (turnOf m x) (turnOf m′ y)) (row-1-is (field-in-use m r (same .two) curr e)) (same-row x))
 
   -- row 11 looks at the target's address
   row-11-same : Same (turnOf m (row (m .addresses) p11 r)) (turnOf m′ (row (m′ .addresses) p11 r))
   unfolding row
-  row-11-same = go (usable (inUse m) r curr) refl
+  row-11-same = uses-curr (row (m .addresses) p11 r) y refl refl (λ e.
+      subst (λ (z : Turn). Same (turnOf m (row (m .addresses) p11 r)) z)
+      (λ i. turn (λ n. ltb (n .0) (same .counts i)) (link-same curr e i) (accessOf p r y) r)
+      target)
     where
-      x : Row
-      x = row (m .addresses) p11 r
-
       y : Row
       y = row (m′ .addresses) p11 r
 
       w : ℕ
       w = wordMet m r (link curr)
 
-      onward : (b : Bool) → inUse m (targetOf w) ≡ b → Same (turnOf m x) (turn (inUse m) w (accessOf p r y) r)
-      onward true e = same-is (rw (rank-same (targetOf w) (ltb-true _ _ e)))
-      onward false e = both-unfit (no-target (inRange r) (usable (inUse m) r curr && true) _ e) (no-target (inRange r) (usable (inUse m) r curr && true) _ e)
-
-      go : (b : Bool) → usable (inUse m) r curr ≡ b → Same (turnOf m x) (turnOf m′ y)
-      go true e = subst (λ (z : Turn). Same (turnOf m x) z) (λ i. turn (λ n. ltb (n .0) (same .counts i)) (link-same curr e i) (accessOf p r y) r) (onward (inUse m (targetOf w)) refl)
-      go false e = unusable x y refl (ap (λ b. b && true) e)
+      target : Same (turnOf m (row (m .addresses) p11 r)) (turn (inUse m) w (accessOf p r y) r)
+      target = by-test (inUse m (targetOf w)) (λ e. same-is (rw (rank-same (targetOf w) (ltb-true _ _ e))))
+          (λ e. let unfit = no-target (inRange r) (usable (inUse m) r curr && true) _ e in both-unfit unfit unfit)
 
   at-place : (place : Place) → Same (turnOf m (row (m .addresses) place r)) (turnOf m′ (row (m′ .addresses) place r))
   unfolding row
@@ -258,19 +242,14 @@ module _ (m : Memory) (nodes : ℕ) (covers : Covers m nodes) (a l d : List ℕ)
 
   step-longer : (p : Process) (r : Record) → stepOf (longer m a l d) p r ≡ longerActed (stepOf m p r)
   unfolding stepOf
-  step-longer p r = go (turnIn m p r .fits) refl
-    where
-      m⁺ : Memory
-      m⁺ = longer m a l d
-
-      same : Same (turnIn m p r) (turnIn m⁺ p r)
-      same = step-sees-nodes-in-use m m⁺ longer-agrees p r
-
-      go : (b : Bool) → turnIn m p r .fits ≡ b → outcomeOf m⁺ r (turnIn m⁺ p r) ≡ longerActed (outcomeOf m r (turnIn m p r))
-      go true e =
-          ap (outcomeOf m⁺ r) (sym (same .accepted e))
-          ∙ rw e (ap (λ k. acted k (turnIn m p r .after) (turnIn m p r .says)) (written-longer (turnIn m p r .writes) (step-writes-in-use p r e)))
-      go false e = rw (e, ← same .fits, e)
+  step-longer p r =
+      let m⁺ = longer m a l d in
+      let t = turnIn m p r in
+      let same = step-sees-nodes-in-use m m⁺ longer-agrees p r in
+      by-test (t .fits)
+      (λ e. ap (outcomeOf m⁺ r) (sym (same .accepted e))
+      ∙ rw e (ap (λ k. acted k (t .after) (t .says)) (written-longer (t .writes) (step-writes-in-use p r e))))
+      (λ e. rw (e, ← same .fits, e))
 
   given-longer : (x : Address) → m .count < nodes → givenOut x (longer m a l d) ≡ longer (givenOut x m) a l d
   unfolding givenOut
@@ -283,18 +262,9 @@ module _ (m : Memory) (nodes : ℕ) (covers : Covers m nodes) (a l d : List ℕ)
 
   insert-longer : (r : Record) (p : Process) (x : Address) → does nodes (longer m a l d) r (Insert p x) ≡ longerActed (does nodes m r (Insert p x))
   unfolding does
-  insert-longer r p x = go (eqb (m .count) nodes) refl
-    where
-      m⁺ : Memory
-      m⁺ = longer m a l d
-
-      go : (b : Bool) → eqb (m .count) nodes ≡ b
-          → cond (eqb (m .count) nodes) (refused m⁺ r 3) (acted (givenOut x m⁺) (requested 0 Inserts x (nextNode m)) Accepted)
-          ≡ longerActed (cond (eqb (m .count) nodes) (refused m r 3) (acted (givenOut x m) (requested 0 Inserts x (nextNode m)) Accepted))
-      go true e = rw e
-      go false e =
-          let h : m .count < nodes = omega (arith, covers .count, eqb-false (m .count) nodes e) in
-          rw e (ap (λ k. acted k (requested 0 Inserts x (nextNode m)) Accepted) (given-longer x h))
+  insert-longer r p x = by-test (eqb (m .count) nodes) (λ e. rw e)
+      (λ e. let h : m .count < nodes = omega (arith, covers .count, eqb-false (m .count) nodes e) in
+      rw e (ap (λ k. acted k (requested 0 Inserts x (nextNode m)) Accepted) (given-longer x h)))
 
   pub does-longer : (r : Record) (e : Event) → does nodes (longer m a l d) r e ≡ longerActed (does nodes m r e)
   unfolding does
@@ -328,22 +298,8 @@ module _ (a l d : List ℕ) where
     fit-longer = rw (long (m .addresses) a addresses, long (m .links) l links, long (m .deleters) d deleters)
 
     fit-covers : tablesFit nodes processes m ≡ true → Covers m nodes
-    unfolding tablesFit
-    fit-covers e =
-        record {
-          two = leb-true 2 (m .count) (last-two before (leb 2 (m .count)) (leb (m .count) nodes) e .0);
-          count = leb-true (m .count) nodes (last-two before (leb 2 (m .count)) (leb (m .count) nodes) e .1);
-          addresses = addresses;
-          links = links;
-          deleters = deleters;
-        }
-      where
-        before : Bool
-        before =
-            sizesFit nodes processes
-            && leb nodes (length (m .addresses))
-            && leb nodes (length (m .links))
-            && leb nodes (length (m .deleters))
+    fit-covers e = let room = room-of nodes processes m e in
+        record { two = room .least; count = room .most; addresses = addresses; links = links; deleters = deleters }
 
     act-longer : (r : Record) (e : Event) → act nodes processes (longer m a l d) r e ≡ more (act nodes processes m r e)
     unfolding act refusalIn
@@ -388,7 +344,8 @@ module _ (a l d : List ℕ) (rs : List Record) (σ : State) (holds : Holds σ) (
       ∙ rw (
         List·getD-append (σ .row) rs freshRecord (processOf e .0) (omega (arith, holds .row)),
         act-longer a l d (σ .nodes) (σ .processes) (σ .memory) (holds .addresses) (holds .links) (holds .deleters) (recordIn σ (processOf e)) e,
-        set-append-left (σ .row) rs (processOf e .0) (act (σ .nodes) (σ .processes) (σ .memory) (recordIn σ (processOf e)) e .advanced) (omega (arith, holds .row)),
+        set-append-left (σ .row) rs (processOf e .0) (act (σ .nodes) (σ .processes) (σ .memory) (recordIn σ (processOf e)) e .advanced)
+            (omega (arith, holds .row)),
       )
       (ap (longerLeaves a l d rs) (sym (event-on-row σ e (holds .row))))
 
@@ -401,38 +358,16 @@ module _ (a l d : List ℕ) (rs : List Record) (σ : State) (holds : Holds σ) (
 
   pub beyond-untouched : event (longerState a l d rs σ) e ≡ longerLeaves a l d rs (event σ e)
   unfolding σ⁺
-  beyond-untouched = go (ltb (processOf e .0) (σ .processes)) refl
-    where
-      go : (b : Bool) → ltb (processOf e .0) (σ .processes) ≡ b → event σ⁺ e ≡ longerLeaves a l d rs (event σ e)
-      go true h = within (ltb-true _ _ h)
-      go false h = beyond (ltb-false _ _ h)
+  beyond-untouched = by-test (ltb (processOf e .0) (σ .processes)) (λ h. within (ltb-true _ _ h)) (λ h. beyond (ltb-false _ _ h))
 
 -- ---- an event keeps the stated sizes and the lengths of the tables
 
--- tables as long as before
-record AsLong (m m′ : Memory) : Type 0 where
-  addresses : length (m′ .addresses) ≡ length (m .addresses)
-  links : length (m′ .links) ≡ length (m .links)
-  deleters : length (m′ .deleters) ≡ length (m .deleters)
-
-as-long : (m : Memory) → AsLong m m
-as-long m = record { addresses = refl; links = refl; deleters = refl }
-
-written-as-long : (w : Write) (m : Memory) → AsLong m (written w m)
-unfolding written
-written-as-long nothing m = as-long m
-written-as-long (linkIs n word) m = record { addresses = refl; links = length-set (m .links) (n .0) word; deleters = refl }
-written-as-long (deleterIs n word) m = record { addresses = refl; links = refl; deleters = length-set (m .deleters) (n .0) word }
-
 does-as-long : (nodes : ℕ) (m : Memory) (r : Record) (e : Event) → AsLong m (does nodes m r e .memory)
-unfolding does givenOut
-does-as-long nodes m r (Insert p x) =
-    insert-meets (λ z. AsLong m (z .memory)) m r nodes p x (as-long m)
-    (record { addresses = length-set (m .addresses) _ _; links = length-set (m .links) _ _; deleters = length-set (m .deleters) _ _ })
+unfolding does
+does-as-long nodes m r (Insert p x) = insert-meets (λ z. AsLong m (z .memory)) m r nodes p x (as-long m) (given-as-long x m)
 does-as-long nodes m r (Delete p x) = as-long m
 does-as-long nodes m r (Find p x) = as-long m
-does-as-long nodes m r (Step p) =
-    step-meets (λ z. AsLong m (z .memory)) m r p (λ fits. written-as-long (turnIn m p r .writes) m) (as-long m)
+does-as-long nodes m r (Step p) = step-meets (λ z. AsLong m (z .memory)) m r p (λ fits. written-as-long (turnIn m p r .writes) m) (as-long m)
 does-as-long nodes m r (Stop p) = as-long m
 does-as-long nodes m r (Restart p) = as-long m
 

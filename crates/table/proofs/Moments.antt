@@ -1,9 +1,9 @@
--- A course of memories: what is known later of what was known before. Rests on Effects.
-use Rattle.table.proofs.Common.{_≡_, refl, sym, _∙_, ap, _≢_, _⊎_, inl, inr, ℕ, zero, suc, _+_, _%_, _≤_, _<_, arith, ℕ-discrete, decLe, node}
-use Rattle.table.proofs.Common.{Node, Memory, aboveAll, HeldBy, Held, follows}
+-- A course of memories: what is known later of what was known before, and when what holds came to be. Rests on Effects.
+use Rattle.table.proofs.Common.{_≡_, refl, sym, _∙_, ap, _≢_, _⊎_, inl, inr, ℕ, suc, _+_, _%_, _≤_, _<_, arith, ℕ-discrete, decLt, le-ind}
+use Rattle.table.proofs.Common.{node, Node, Memory, aboveAll, HeldBy, Held, follows}
 use Rattle.table.proofs.Reaching.{gap, once}
 use Rattle.table.proofs.Numbered.{linkIn, deleterIn, rankIn, Used, On, Marked, Plain, unmarked-plain, plain-unmarked, rank-inner, rank-head}
-use Rattle.table.proofs.Numbered.{rank-tail}
+use Rattle.table.proofs.Numbered.{rank-tail, nextIn, not-next}
 use Rattle.table.proofs.Effects.{Orderly, Keeps}
 
 -- what is known later of what was known before
@@ -14,170 +14,173 @@ pub record Later (m m′ : Memory) : Type 0 where
   pub signed : (n : ℕ) → Used m n → deleterIn m n ≢ 0 → deleterIn m′ n ≡ deleterIn m n
   pub stays : (n : ℕ) → On m n → On m′ n ⊎ Marked m′ n
 
-pub later-itself : (m : Memory) → Later m m
+later-itself : (m : Memory) → Later m m
 later-itself m = record { used = λ n u. u; ranks = λ n h. refl; frozen = λ n h s. refl; signed = λ n h s. refl; stays = λ n o. inl o }
 
 pub marked-later : {m m′ : Memory} → Later m m′ → (n : ℕ) → Used m n → Marked m n → Marked m′ n
 marked-later l n u s = ap (λ x. x % 2) (l .frozen n u s) ∙ s
 
-pub later-onward : {N : ℕ} {m m′ m″ : Memory} → Later m m′ → Orderly N m → Orderly N m′ → Keeps m′ m″ → Later m m″
-later-onward {m} {m′} {m″} l i i′ k = record {
+later-onward : {N : ℕ} {m m′ m″ : Memory} → Later m m′ → Orderly N m → Keeps m′ m″ → Later m m″
+later-onward l i k = record {
   used = λ n u. k .used n (l .used n u);
   ranks = λ n u. k .ranks n (l .used n u) ∙ l .ranks n u;
   frozen = λ n u s. k .frozen n (l .used n u) (marked-later l n u s) ∙ l .frozen n u s;
   signed = λ n h s. k .signed n (l .used n h) (λ q. s (sym (l .signed n h s) ∙ q)) ∙ l .signed n h s;
-  stays = λ n o. go n o (l .stays n o);
+  stays = λ n o. elim (l .stays n o) [
+    | inl r ↦ elim (k .stays n r) [ inl u ↦ inl u | inr s ↦ inr (ap (λ x. x % 2) (s .1) ∙ s .0) ]
+    | inr s ↦ inr (ap (λ x. x % 2) (k .frozen n (l .used n (i .used n o)) s) ∙ s)
+  ];
 }
-  where
-    still : (n : ℕ) → On m″ n ⊎ (Marked m′ n × (linkIn m″ n ≡ linkIn m′ n)) → On m″ n ⊎ Marked m″ n
-    still n (inl o) = inl o
-    still n (inr s) = inr (ap (λ x. x % 2) (s .1) ∙ s .0)
-
-    go : (n : ℕ) → On m n → On m′ n ⊎ Marked m′ n → On m″ n ⊎ Marked m″ n
-    go n r (inl o) = still n (k .stays n o)
-    go n r (inr s) = inr (ap (λ x. x % 2) (k .frozen n (l .used n (i .used n r)) s) ∙ s)
 
 -- a course of memories, those before events 0 .. T, each kept by the next
 pub record Course (N : ℕ) (M : ℕ → Memory) (T : ℕ) : Type 0 where
   pub orderly : (t : ℕ) → t ≤ T → Orderly N (M t)
   pub keeps : (t : ℕ) → t < T → Keeps (M t) (M (suc t))
 
-module _ (N : ℕ) (M : ℕ → Memory) where
-  pub shorter : (T T′ : ℕ) → T′ ≤ T → Course N M T → Course N M T′
-  shorter T T′ h H = record { orderly = λ t l. H .orderly t (omega arith); keeps = λ t l. H .keeps t (omega arith) }
+-- at a moment from s to t, n was on the chain with the word that it has at t
+abbrev pub OnSince : (M : ℕ → Memory) → (s t n : ℕ) → Type 0
+OnSince M s t n = (w : ℕ) × (s ≤ w) × (w ≤ t) × On (M w) n × (linkIn (M w) n ≡ linkIn (M t) n)
 
-  pub longer : (T : ℕ) → Course N M T → Orderly N (M (suc T)) → Keeps (M T) (M (suc T)) → Course N M (suc T)
-  longer T H i k = record { orderly = λ t l. orderly t l (ℕ-discrete t (suc T)); keeps = λ t l. keeps t l (ℕ-discrete t T) }
+module _ {N : ℕ} {M : ℕ → Memory} where
+  pub shorter : {T : ℕ} → Course N M T → (t : ℕ) → t ≤ T → Course N M t
+  shorter H t h = record { orderly = λ s l. H .orderly s (omega arith); keeps = λ s l. H .keeps s (omega arith) }
+
+  pub longer : {T : ℕ} → Course N M T → Orderly N (M (suc T)) → Keeps (M T) (M (suc T)) → Course N M (suc T)
+  longer {T} H i k = record {
+    orderly = λ t l. elim (ℕ-discrete t (suc T)) [ yes q ↦ rw q i | no q ↦ H .orderly t (omega arith) ];
+    keeps = λ t l. elim (ℕ-discrete t T) [ yes q ↦ rw q k | no q ↦ H .keeps t (omega arith) ];
+  }
+
+  pub later : {t : ℕ} → Course N M t → (s : ℕ) → s ≤ t → Later (M s) (M t)
+  later {t} H s h = le-ind (λ t. Course N M t → Later (M s) (M t)) (λ H. later-itself (M s)) onward t h H
     where
-      orderly : (t : ℕ) → t ≤ suc T → Dec (t ≡ suc T) → Orderly N (M t)
-      orderly t l (yes q) = rw q i
-      orderly t l (no q) = H .orderly t (omega arith)
-
-      keeps : (t : ℕ) → t < suc T → Dec (t ≡ T) → Keeps (M t) (M (suc t))
-      keeps t l (yes q) = rw q k
-      keeps t l (no q) = H .keeps t (omega arith)
-
-  pub later : (s t : ℕ) → s ≤ t → Course N M t → Later (M s) (M t)
-  later s zero h H = rw le-zero (later-itself (M 0))
-    where
-      le-zero : s ≡ 0
-      le-zero = omega arith
-  later s (suc t) h H = go (decLe s t) (λ k. later s t k (shorter (suc t) t (omega arith) H))
-    where
-      go : Dec (s ≤ t) → (s ≤ t → Later (M s) (M t)) → Later (M s) (M (suc t))
-      go (yes k) f = later-onward (f k) (H .orderly s h) (H .orderly t (omega arith)) (H .keeps t (omega arith))
-      go (no k) f = let q : s ≡ suc t = omega arith in rw q (later-itself (M (suc t)))
-
-  -- at a moment from s to t, n was on the chain with the word that it has at t
-  abbrev pub OnSince : (s t n : ℕ) → Type 0
-  OnSince s t n = (w : ℕ) × (s ≤ w) × (w ≤ t) × On (M w) n × (linkIn (M w) n ≡ linkIn (M t) n)
+      onward : (t : ℕ) → s ≤ t → (Course N M t → Later (M s) (M t)) → Course N M (suc t) → Later (M s) (M (suc t))
+      onward t l before H = later-onward (before (shorter H t (omega arith))) (H .orderly s (omega arith)) (H .keeps t (omega arith))
 
   -- Hindsight: a node that was on the chain at s was on it at some moment since with the word that it has now.
-  pub hindsight : (s t n : ℕ) → s ≤ t → Course N M t → On (M s) n → OnSince s t n
-  hindsight s zero n h H o = let q : s ≡ 0 = omega arith in (s, omega arith, omega arith, o, rw q refl)
-  hindsight s (suc t) n h H o = go (decLe s t) (λ k. hindsight s t n k H′ o)
+  pub hindsight : {t : ℕ} → Course N M t → (s : ℕ) → s ≤ t → {n : ℕ} → On (M s) n → OnSince M s t n
+  hindsight {t} H s h {n} o = le-ind (λ t. Course N M t → OnSince M s t n) (λ H. (s, omega arith, omega arith, o, refl)) onward t h H
     where
-      H′ : Course N M t
-      H′ = shorter (suc t) t (omega arith) H
-
-      on : On (M t) n → s ≤ t → On (M (suc t)) n ⊎ (Marked (M t) n × (linkIn (M (suc t)) n ≡ linkIn (M t) n)) → OnSince s (suc t) n
-      on r k (inl u) = (suc t, h, omega arith, u, refl)
-      on r k (inr u) = (t, k, omega arith, r, sym (u .1))
-
-      at : s ≤ t → OnSince s t n → On (M t) n ⊎ Marked (M t) n → OnSince s (suc t) n
-      at k z (inl r) = on r k (H .keeps t (omega arith) .stays n r)
-      at k z (inr u) = (
-        z .0,
-        z .1,
-        omega (arith, z .2),
-        z .3,
-        z .4 ∙ sym (H .keeps t (omega arith) .frozen n (later s t k H′ .used n (H .orderly s h .used n o)) u),
-      )
-
-      go : Dec (s ≤ t) → (s ≤ t → OnSince s t n) → OnSince s (suc t) n
-      go (yes k) f = at k (f k) (later s t k H′ .stays n o)
-      go (no k) f = let q : s ≡ suc t = omega arith in (s, omega arith, omega arith, o, rw q refl)
+      onward : (t : ℕ) → s ≤ t → (Course N M t → OnSince M s t n) → Course N M (suc t) → OnSince M s (suc t) n
+      onward t l before H = elim (until .stays n o) [
+        | inl r ↦ elim (H .keeps t (omega arith) .stays n r) [
+          | inl u ↦ (suc t, omega arith, omega arith, u, refl)
+          | inr u ↦ (t, l, omega arith, r, sym (u .1))
+        ]
+        | inr u ↦ let z = before (shorter H t (omega arith)) in (
+          z .0,
+          z .1,
+          omega (arith, z .2),
+          z .3,
+          z .4 ∙ sym (H .keeps t (omega arith) .frozen n (until .used n (H .orderly s (omega arith) .used n o)) u),
+        )
+      ]
+        where
+          until : Later (M s) (M t)
+          until = later (shorter H t (omega arith)) s l
 
 -- ---- at one moment
 
-module _ (N : ℕ) (m : Memory) (i : Orderly N m) where
+module _ (m : Memory) where
   -- the node of an address is neither head nor tail
   pub inner : (n a : ℕ) → rankIn m n ≡ a + 1 → a + 1 < aboveAll → 2 ≤ n
-  inner n a k s = go (ℕ-discrete n 0) (ℕ-discrete n 1)
-    where
-      go : Dec (n ≡ 0) → Dec (n ≡ 1) → 2 ≤ n
-      go (yes q) e = absurd (omega (arith, ap (rankIn m) q, rank-head m))
-      go (no q) (yes e) = absurd (omega (arith, ap (rankIn m) e, rank-tail m))
-      go (no q) (no e) = omega arith
-
-  pub held-by : (n a : ℕ) → On m n → Plain m n → rankIn m n ≡ a + 1 → a + 1 < aboveAll → HeldBy m a (node n)
-  held-by n a o e k s = let h = inner n a k s in record { on = o; inner = h; plain = plain-unmarked m n e; named = omega (arith, rank-inner m n h) }
+  inner n a k s = elim (ℕ-discrete n 0) [
+    | yes q ↦ absurd (omega (arith, ap (rankIn m) q, rank-head m))
+    | no q ↦ elim (ℕ-discrete n 1) [ yes e ↦ absurd (omega (arith, ap (rankIn m) e, rank-tail m)) | no e ↦ omega arith ]
+  ]
 
   pub held : (n a : ℕ) → On m n → Plain m n → rankIn m n ≡ a + 1 → a + 1 < aboveAll → Held m a
-  held n a o e k s = (node n, held-by n a o e k s)
+  held n a o e k s = let h = inner n a k s in
+      (node n, record { on = o; inner = h; plain = plain-unmarked m n e; named = omega (arith, rank-inner m n h) })
 
   pub rank-held : (a : ℕ) (n : Node) → HeldBy m a n → rankIn m (n .0) ≡ a + 1
   rank-held a n h = omega (arith, rank-inner m (n .0) (h .inner), h .named)
 
+module _ {N : ℕ} {m : Memory} (i : Orderly N m) where
   -- no address is held between a node and its next
   pub between : (b a : ℕ) → On m b → rankIn m b < a + 1 → a + 1 < rankIn m (follows m b) → Held m a → ⊥
-  between b a o l g h = go (gap (follows m) (rankIn m) (i .rise) o (h .1 .on))
-    where
-      go : (rankIn m (h .0 .0) ≤ rankIn m b) ⊎ (rankIn m (follows m b) ≤ rankIn m (h .0 .0)) → ⊥
-      go (inl q) = omega (arith, rank-held a (h .0) (h .1))
-      go (inr q) = omega (arith, rank-held a (h .0) (h .1))
+  between b a o l g h = let k = rank-held m a (h .0) (h .1) in
+      elim (gap (follows m) (rankIn m) (i .rise) o (h .1 .on)) [ inl q ↦ omega arith | inr q ↦ omega arith ]
+
+  -- an unmarked node on the chain has no deleter
+  pub plain-unsigned : (n : ℕ) → On m n → Plain m n → deleterIn m n ≡ 0
+  plain-unsigned n o e = elim (ℕ-discrete (deleterIn m n) 0) [ yes z ↦ z | no z ↦ absurd (omega (arith, i .signed n o z)) ]
 
   -- the address of a struck node that is still on the chain is not held
   pub struck-gone : (n a : ℕ) → On m n → Marked m n → rankIn m n ≡ a + 1 → Held m a → ⊥
-  struck-gone n a o s k h = let q : n ≡ h .0 .0 = once (follows m) (rankIn m) (i .rise) o (h .1 .on) (omega (arith, rank-held a (h .0) (h .1))) in
+  struck-gone n a o s k h =
+      let q : n ≡ h .0 .0 = once (follows m) (rankIn m) (i .rise) o (h .1 .on) (omega (arith, rank-held m a (h .0) (h .1))) in
       omega (arith, ap (linkIn m) q, unmarked-plain m (h .0 .0) (h .1 .plain))
 
 -- ---- from then to now
 
-module _ (N : ℕ) (M : ℕ → Memory) (t : ℕ) (H : Course N M t) (w : ℕ) (le : w ≤ t) where
-  pub onNow : (b : ℕ) → On (M w) b → Plain (M t) b → On (M t) b
-  onNow b o e = go (later N M w t le H .stays b o)
-    where
-      go : On (M t) b ⊎ Marked (M t) b → On (M t) b
-      go (inl r) = r
-      go (inr s) = absurd (omega arith)
+module _ {N : ℕ} {M : ℕ → Memory} {t : ℕ} (H : Course N M t) (w : ℕ) (le : w ≤ t) {b : ℕ} (o : On (M w) b) where
+  pub onNow : Plain (M t) b → On (M t) b
+  onNow e = elim (later H w le .stays b o) [ inl r ↦ r | inr s ↦ absurd (omega arith) ]
 
-  pub usedNow : (b : ℕ) → On (M w) b → Used (M t) b
-  usedNow b o = later N M w t le H .used b (H .orderly w le .used b o)
+  pub usedNow : Used (M t) b
+  usedNow = later H w le .used b (H .orderly w le .used b o)
 
-  pub rankNow : (b : ℕ) → On (M w) b → rankIn (M t) b ≡ rankIn (M w) b
-  rankNow b o = later N M w t le H .ranks b (H .orderly w le .used b o)
+  pub rankNow : rankIn (M t) b ≡ rankIn (M w) b
+  rankNow = later H w le .ranks b (H .orderly w le .used b o)
 
   -- a deleter stands only on a marked node
-  pub signedNow : (b : ℕ) → On (M w) b → deleterIn (M t) b ≢ 0 → Marked (M t) b
-  signedNow b o d = go (later N M w t le H .stays b o)
-    where
-      go : On (M t) b ⊎ Marked (M t) b → Marked (M t) b
-      go (inl r) = H .orderly t (omega arith) .signed b r d
-      go (inr s) = s
+  pub signedNow : deleterIn (M t) b ≢ 0 → Marked (M t) b
+  signedNow d = elim (later H w le .stays b o) [ inl r ↦ H .orderly t (omega arith) .signed b r d | inr s ↦ s ]
+
+-- n was given out at event r, and is in use at t
+pub record GivenAt (M : ℕ → Memory) (r t n : ℕ) : Type 0 where
+  pub inner : 2 ≤ n
+  pub given : n ≡ nextIn (M r)
+  pub taken : Used (M (suc r)) n
+  pub used : Used (M t) n
+
+-- a node is given out once
+pub given-once : {N : ℕ} {M : ℕ → Memory} {t : ℕ} → Course N M t → {r r′ s s′ n : ℕ} → r ≤ t → r′ ≤ t → GivenAt M r s n → GivenAt M r′ s′ n → r ≡ r′
+given-once {M = M} H {r} {r′} {n = n} l l′ g g′ = elim (decLt r r′) [
+  | yes k ↦ absurd (not-next (M r′) n (later (shorter H r′ l′) (suc r) k .used n (g .taken)) (g′ .given))
+  | no k ↦ elim (decLt r′ r) [
+    | yes k′ ↦ absurd (not-next (M r) n (later (shorter H r l) (suc r′) k′ .used n (g′ .taken)) (g .given))
+    | no k′ ↦ omega arith
+  ]
+]
+
+-- ---- when it came to be
+
+-- what does not hold at w and holds at T comes to be at an event between them, of which Q says what it is
+pub comes-to-be : (P Q : ℕ → Type 0) (w T : ℕ) → w ≤ T → (P w → ⊥) → ((t : ℕ) → w ≤ t → P (suc t) → P t ⊎ Q t) → P T
+    → (t : ℕ) × (w ≤ t) × (t < T) × Q t
+comes-to-be P Q w T le was event = le-ind (λ T. P T → (t : ℕ) × (w ≤ t) × (t < T) × Q t) (λ p. absurd (was p)) onward T le
+  where
+    onward : (s : ℕ) → w ≤ s → (P s → (t : ℕ) × (w ≤ t) × (t < s) × Q t) → P (suc s) → (t : ℕ) × (w ≤ t) × (t < suc s) × Q t
+    onward s l before p = elim (event s l p) [
+      | inl q ↦ let z = before q in (z .0, z .1, omega (arith, z .2), z .3)
+      | inr q ↦ (s, l, omega arith, q)
+    ]
+
+-- P does not hold before event t, and holds after it
+abbrev pub Begins : (ℕ → Type 0) → ℕ → Type 0
+Begins P t = (P t → ⊥) × P (suc t)
+
+pub begins-between : (P : ℕ → Type 0) → ((t : ℕ) → Dec (P t)) → (w T : ℕ) → w ≤ T → (P w → ⊥) → P T → (t : ℕ) × (w ≤ t) × (t < T) × Begins P t
+begins-between P test w T le was = comes-to-be P (Begins P) w T le was (λ t l p. elim (test t) [ yes q ↦ inl q | no q ↦ inr (q, p) ])
+
+pub marked-or-not : (m : Memory) (n : ℕ) → Dec (Marked m n)
+marked-or-not m n = ℕ-discrete (linkIn m n % 2) 1
 
 -- a node that was held and is struck: there was a moment, after, when its address was not held
-pub gone-since : (N : ℕ) (M : ℕ → Memory) (t : ℕ) (H : Course N M t) (w n a : ℕ) → w ≤ t → On (M w) n → Plain (M w) n
+pub gone-since : {N : ℕ} {M : ℕ → Memory} {t : ℕ} (H : Course N M t) (w : ℕ) → w ≤ t → {n : ℕ} (a : ℕ) → On (M w) n → Plain (M w) n
     → rankIn (M w) n ≡ a + 1 → Marked (M t) n → (v : ℕ) × (w < v) × (v ≤ t) × (Held (M v) a → ⊥)
-gone-since N M zero H w n a le o e k s = let q : w ≡ 0 = omega arith in absurd (omega (arith, ap (λ x. linkIn (M x) n) q))
-gone-since N M (suc t) H w n a le o e k s = go (ℕ-discrete w (suc t)) (ℕ-discrete (linkIn (M t) n % 2) 1) (λ h u. gone-since N M t H′ w n a h o e k u)
+gone-since {M = M} {t} H w le {n} a o e k s = (suc (z .0), omega (arith, z .1), z .2, gone)
   where
-    H′ : Course N M t
-    H′ = shorter N M (suc t) t (omega arith) H
+    z : (s : ℕ) × (w ≤ s) × (s < t) × Begins (λ s. Marked (M s) n) s
+    z = begins-between (λ s. Marked (M s) n) (λ s. marked-or-not (M s) n) w t le (λ q. absurd (omega arith)) s
 
-    Goal : Type 0
-    Goal = (v : ℕ) × (w < v) × (v ≤ suc t) × (Held (M v) a → ⊥)
+    was : On (M (z .0)) n
+    was = onNow (shorter H (z .0) (omega (arith, z .2))) w (z .1) o (omega (arith, z .3 .0))
 
-    now : w ≤ t → linkIn (M t) n % 2 ≢ 1 → On (M (suc t)) n ⊎ (Marked (M t) n × (linkIn (M (suc t)) n ≡ linkIn (M t) n)) → Goal
-    now h u (inl r) = (
-      suc t,
-      omega arith,
-      omega arith,
-      struck-gone N (M (suc t)) (H .orderly (suc t) (omega arith)) n a r s (rankNow N M (suc t) H w le n o ∙ k),
-    )
-    now h u (inr r) = absurd (u (r .0))
-
-    go : Dec (w ≡ suc t) → Dec (Marked (M t) n) → (w ≤ t → Marked (M t) n → (v : ℕ) × (w < v) × (v ≤ t) × (Held (M v) a → ⊥)) → Goal
-    go (yes q) d f = absurd (omega (arith, ap (λ x. linkIn (M x) n) q))
-    go (no q) (yes u) f = let z = f (omega arith) u in (z .0, z .1, omega (arith, z .2), z .3)
-    go (no q) (no u) f = now (omega arith) u (H .keeps t (omega arith) .stays n (onNow N M t H′ w (omega arith) n o (omega arith)))
+    gone : Held (M (suc (z .0))) a → ⊥
+    gone = elim (H .keeps (z .0) (z .2) .stays n was) [
+      | inl r ↦ struck-gone (H .orderly (suc (z .0)) (z .2)) n a r (z .3 .1) (rankNow (shorter H (suc (z .0)) (z .2)) w (omega (arith, z .1)) o ∙ k)
+      | inr r ↦ absurd (z .3 .0 (r .0))
+    ]

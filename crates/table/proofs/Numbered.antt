@@ -1,6 +1,6 @@
--- The words of a memory by node number, and what a write or a giving out leaves of them. Rests on Words.
+-- The words of a memory and the nodes of a record by number, and what a write or a giving out leaves of the words. Rests on Words.
 use Rattle.table.proofs.Common.{_≡_, refl, _∙_, ap, _≢_, true, false, ℕ, _+_, _%_, _≤_, _<_, arith, ltb, length, getD, length-set}
-use Rattle.table.proofs.Common.{getD-set-same, getD-set-other, ltb-true, eqb-true, eqb-false, lt-ltb, eq-eqb, ne-eqb, node, Address, Memory}
+use Rattle.table.proofs.Common.{getD-set-same, getD-set-other, ltb-true, eqb-true, eqb-false, lt-ltb, ne-eqb, node, Address, Record, Memory}
 use Rattle.table.proofs.Common.{addressAt, linkAt, deleterAt, linkWord, isMarked, inUse, aboveAll, rank, Write, nothing, linkIs, deleterIs}
 use Rattle.table.proofs.Common.{written, nextNode, givenOut, OnChain, Struck}
 
@@ -24,6 +24,22 @@ Used m n = inUse m (node n) ≡ true
 abbrev pub On : Memory → ℕ → Type 0
 On m n = OnChain m (node n)
 
+-- the nodes of a record and the address that it asks for
+abbrev pub predIn : Record → ℕ
+predIn R = R .lost .pred .0
+
+abbrev pub currIn : Record → ℕ
+currIn R = R .lost .curr .0
+
+abbrev pub succIn : Record → ℕ
+succIn R = R .lost .succ .0
+
+abbrev pub ownIn : Record → ℕ
+ownIn R = R .kept .node .0
+
+abbrev pub askedIn : Record → ℕ
+askedIn R = R .kept .address .0
+
 -- a link word to node c
 abbrev pub plainTo : ℕ → ℕ
 plainTo c = linkWord (node c) false
@@ -46,9 +62,6 @@ Plain m n = linkIn m n % 2 ≡ 0
 
 pub struck-marked : (m : Memory) (n : ℕ) → Struck m (node n) → Marked m n
 struck-marked m n s = eqb-true (linkIn m n % 2) 1 s
-
-pub marked-struck : (m : Memory) (n : ℕ) → Marked m n → Struck m (node n)
-marked-struck m n s = eq-eqb (linkIn m n % 2) 1 s
 
 pub unmarked-plain : (m : Memory) (n : ℕ) → isMarked (linkIn m n) ≡ false → Plain m n
 unmarked-plain m n e = let ne = eqb-false (linkIn m n % 2) 1 e in omega (arith, ne)
@@ -115,6 +128,26 @@ count-written nothing m = refl
 count-written (linkIs n w) m = refl
 count-written (deleterIs n w) m = refl
 
+-- ---- tables as long as before
+
+pub record AsLong (m m′ : Memory) : Type 0 where
+  pub addresses : length (m′ .addresses) ≡ length (m .addresses)
+  pub links : length (m′ .links) ≡ length (m .links)
+  pub deleters : length (m′ .deleters) ≡ length (m .deleters)
+
+pub as-long : (m : Memory) → AsLong m m
+as-long m = record { addresses = refl; links = refl; deleters = refl }
+
+pub written-as-long : (f : Write) (m : Memory) → AsLong m (written f m)
+unfolding written
+written-as-long nothing m = as-long m
+written-as-long (linkIs n w) m = record { addresses = refl; links = length-set (m .links) (n .0) w; deleters = refl }
+written-as-long (deleterIs n w) m = record { addresses = refl; links = refl; deleters = length-set (m .deleters) (n .0) w }
+
+pub given-as-long : (a : Address) (m : Memory) → AsLong m (givenOut a m)
+unfolding givenOut
+given-as-long a m = record { addresses = length-set (m .addresses) _ _; links = length-set (m .links) _ _; deleters = length-set (m .deleters) _ _ }
+
 -- ---- room: the tables reach over the nodes, and the count lies within
 
 pub record Room (N : ℕ) (m : Memory) : Type 0 where
@@ -133,23 +166,17 @@ within {m = m} o n u = omega (arith, used-below m n u, o .most)
 pub used-written : (f : Write) (m : Memory) (n : ℕ) → Used m n → Used (written f m) n
 used-written f m n u = ap (ltb n) (count-written f m) ∙ u
 
+room-after : {N : ℕ} {m m′ : Memory} → AsLong m m′ → m .count ≤ m′ .count → m′ .count ≤ N → Room N m → Room N m′
+room-after long least most o = record {
+  addresses = omega (arith, long .addresses, o .addresses);
+  links = omega (arith, long .links, o .links);
+  deleters = omega (arith, long .deleters, o .deleters);
+  least = omega (arith, o .least);
+  most = most;
+}
+
 pub room-written : {N : ℕ} {m : Memory} (f : Write) → Room N m → Room N (written f m)
-unfolding written
-room-written nothing o = o
-room-written {m = m} (linkIs n w) o = record {
-  addresses = o .addresses;
-  links = omega (arith, length-set (m .links) (n .0) w, o .links);
-  deleters = o .deleters;
-  least = o .least;
-  most = o .most;
-}
-room-written {m = m} (deleterIs n w) o = record {
-  addresses = o .addresses;
-  links = o .links;
-  deleters = omega (arith, length-set (m .deleters) (n .0) w, o .deleters);
-  least = o .least;
-  most = o .most;
-}
+room-written {m = m} f o = let c = count-written f m in room-after (written-as-long f m) (omega arith) (omega (arith, o .most)) o
 
 -- ---- a node is given out
 
@@ -180,13 +207,7 @@ module _ (a : Address) (m : Memory) where
 
   pub room-given : {N : ℕ} → Room N m → nextIn m < N → Room N (givenOut a m)
   unfolding givenOut
-  room-given o h = record {
-    addresses = omega (arith, length-set (m .addresses) (m .count) (a .0), o .addresses);
-    links = omega (arith, length-set (m .links) (m .count) (plainTo 1), o .links);
-    deleters = omega (arith, length-set (m .deleters) (m .count) 0, o .deleters);
-    least = omega (arith, o .least);
-    most = omega arith;
-  }
+  room-given {N} o h = room-after {N = N} (given-as-long a m) (omega arith) (omega arith) o
 
   -- the words of another node stay
   module _ (x : ℕ) (h : x ≢ nextIn m) where

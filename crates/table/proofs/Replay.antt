@@ -1,7 +1,7 @@
--- Lists of slots joined, and a plain set at work that is what is held. Rests on History and OrderNeeds.
+-- Lists of slots joined, and a plain set at work that is what is held. Rests on OrderNeeds.
 use mathlib.Core.Path.{_≡_, refl, sym, _∙_, subst}
 use mathlib.Core.Logic.{_≢_, _⊎_, inl, inr, _↔_}
-use mathlib.Core.Bool.{Bool, true, false, not, _&&_, _||_, false≢true}
+use mathlib.Core.Bool.{or-true, true, false, not, _&&_, _||_, false≢true}
 use mathlib.Core.List.{List, [], _∷_, _++_, List·Memᴰ, List·Memᴰ·head, List·Memᴰ·tail, List·Memᴰ·append-cases}
 use Prim.Native.Nat.{ℕ, suc, _≤_}
 use native.Mathlib.Omega.{arith}
@@ -11,6 +11,7 @@ use borrow.Author.Tests.{eq-eqb, ne-eqb}
 use Rattle.record.specs.Record.{True}
 use Rattle.record.specs.declared.Address.{Address}
 use Rattle.table.specs.History.{Kind, insert, delete, find, Set, Slot, NeverFalls, NoneTwice, says, becomes, worked, SameAnswers}
+use Rattle.table.proofs.Tests.{not-true-false}
 use Rattle.table.proofs.OrderNeeds.{Tells}
 
 -- ---- lists of slots, joined
@@ -38,14 +39,13 @@ none-twice-joined (x ∷ xs) ys a b d =
     other u (inl m) = a .0 u m
     other u (inr m) = d x u (List·Memᴰ·head refl) m
 
-pub worked-joined : (s : Set) (xs ys : List Slot) → worked s (xs ++ ys) ≡ worked (worked s xs) ys
+worked-joined : (s : Set) (xs ys : List Slot) → worked s (xs ++ ys) ≡ worked (worked s xs) ys
 worked-joined s [] ys = refl
 worked-joined s (x ∷ xs) ys = worked-joined (becomes (x .operation .kind) (x .operation .address) s) xs ys
 
-pub same-answers-joined : (s : Set) (xs ys : List Slot) → SameAnswers s xs → SameAnswers (worked s xs) ys → SameAnswers s (xs ++ ys)
+same-answers-joined : (s : Set) (xs ys : List Slot) → SameAnswers s xs → SameAnswers (worked s xs) ys → SameAnswers s (xs ++ ys)
 same-answers-joined s [] ys a b = b
-same-answers-joined s (x ∷ xs) ys a b =
-    (a .0, same-answers-joined (becomes (x .operation .kind) (x .operation .address) s) xs ys (a .1) b)
+same-answers-joined s (x ∷ xs) ys a b = (a .0, same-answers-joined (becomes (x .operation .kind) (x .operation .address) s) xs ys (a .1) b)
 
 -- ---- a plain set that is a given one
 
@@ -64,7 +64,7 @@ pub replays-joined : (s : Set) (xs ys : List Slot) (P Q : Address → Type 0) �
     → ((s′ : Set) → IsSet s′ P → Replays s′ ys Q) → Replays s (xs ++ ys) Q
 replays-joined s xs ys P Q first next =
     let rest = next (worked s xs) (first .is) in
-    record { same = same-answers-joined s xs ys (first .same) (rest .same); is = subst (λ s′. IsSet s′ Q) (sym (worked-joined s xs ys)) (rest .is) }
+    record { same = same-answers-joined s xs ys (first .same) (rest .same); is = rw (worked-joined s xs ys) (rest .is) }
 
 -- ---- one operation
 
@@ -75,10 +75,6 @@ module _ (s : Set) (a : Address) where
       into : Dec (x .0 ≡ a .0) → (eqb (x .0) (a .0) || s x) ≡ true → (x .0 ≡ a .0) ⊎ (s x ≡ true)
       into (yes e) q = inl e
       into (no n) q = inr (rw (ne-eqb (x .0) (a .0) n) at q)
-
-      or-true : (b : Bool) → (b || true) ≡ true
-      or-true true = refl
-      or-true false = refl
 
       from : (x .0 ≡ a .0) ⊎ (s x ≡ true) → (eqb (x .0) (a .0) || s x) ≡ true
       from (inl e) = rw (eq-eqb (x .0) (a .0) e) refl
@@ -91,13 +87,9 @@ module _ (s : Set) (a : Address) where
       into (yes e) q = absurd (false≢true (rw (eq-eqb (x .0) (a .0) e) at q))
       into (no n) q = (n, rw (ne-eqb (x .0) (a .0) n) at q)
 
-  not-true : (b : Bool) → (b ≡ true → ⊥) → b ≡ false
-  not-true true h = absurd (h refl)
-  not-true false h = refl
-
   module _ (P : Address → Type 0) (is : IsSet s P) where
     out : (P a → ⊥) → s a ≡ false
-    out h = not-true (s a) (λ q. h (is a .0 q))
+    out h = not-true-false (s a) (λ q. h (is a .0 q))
 
     pub told-says : (k : Kind) (v : ℕ) → Tells k v (P a) → v ≡ says k a s
     told-says insert v z = z .0 ∙ (rw (is a .1 (z .1)) refl)
@@ -110,11 +102,10 @@ module _ (s : Set) (a : Address) where
 
     -- an answer that leaves the set as it is does so
     pub told-stays : (k : Kind) (v : ℕ) → Tells k v (P a) → IsSet (becomes k a s) P
-    told-stays insert v z x = ((λ q. either (in-inserted x .0 q)), (λ q. in-inserted x .1 (inr (is x .1 q))))
-      where
-        either : (x .0 ≡ a .0) ⊎ (s x ≡ true) → P x
-        either (inl q) = same-address x q (z .1)
-        either (inr q) = is x .0 q
+    told-stays insert v z x = (
+      (λ q. elim (in-inserted x .0 q) [ inl e ↦ same-address x e (z .1) | inr e ↦ is x .0 e ]),
+      (λ q. in-inserted x .1 (inr (is x .1 q))),
+    )
     told-stays delete v z x =
         ((λ q. is x .0 (in-deleted x .0 q .1)), (λ q. in-deleted x .1 ((λ e. z .1 (subst P (λ i. record { 0 = e i }) q)), is x .1 q)))
     told-stays find v z x = is x
@@ -123,7 +114,7 @@ module _ (s : Set) (a : Address) where
   module _ (held : ℕ → Address → Type 0) (t : ℕ) (is : IsSet s (held t)) where
     pub added : (k : Kind) → k ≡ insert → (held t a → ⊥) → ((x : Address) → held (suc t) x ↔ ((x .0 ≡ a .0) ⊎ held t x))
         → (says k a s ≡ True) × IsSet (becomes k a s) (held (suc t))
-    added k e free adds = subst (λ k. (says k a s ≡ True) × IsSet (becomes k a s) (held (suc t))) (sym e) (
+    added k e free adds = rw e (
       rw (out (held t) is free) refl,
       λ x. ((λ q. adds x .1 (into x (in-inserted x .0 q))), (λ q. in-inserted x .1 (from x (adds x .0 q)))),
     )
@@ -138,7 +129,7 @@ module _ (s : Set) (a : Address) where
 
     pub removed : (k : Kind) → k ≡ delete → held t a → ((x : Address) → held (suc t) x ↔ ((x .0 ≢ a .0) × held t x))
         → (says k a s ≡ True) × IsSet (becomes k a s) (held (suc t))
-    removed k e taken removes = subst (λ k. (says k a s ≡ True) × IsSet (becomes k a s) (held (suc t))) (sym e) (
+    removed k e taken removes = rw e (
       rw (is a .1 taken) refl,
       λ x. (
         (λ q. let z = in-deleted x .0 q in removes x .1 (z .0, is x .0 (z .1))),

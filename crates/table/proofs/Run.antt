@@ -1,7 +1,7 @@
--- A run: a quiet state, its events, and what is asked of them; its states, operations and answers by time. Rests on Demand3.
-use Rattle.table.proofs.Common.{_≡_, refl, sym, _≢_, _⊎_, inl, inr, Bool, true, false, cond, Option, none, some, ℕ, zero, suc, _≤_, _<_, arith}
-use Rattle.table.proofs.Common.{le-ind, lt-ltb, le-ltb, eq-eqb, ne-eqb, kindOf, processOf, Record, Event, Insert, Delete, Find, Step, Stop}
-use Rattle.table.proofs.Common.{Restart, Outcome, Accepted, Memory, State, Answer, Quiet, answerAt, firstOf, at, out, answer, AddressesFit}
+-- A run: a quiet state, its events, and what is asked of them; its states, operations and answers by time. Rests on EventCases.
+use Rattle.table.proofs.Common.{_≡_, refl, sym, _≢_, Bool, true, false, cond, Option, none, some, ℕ, zero, suc, _≤_, _<_, arith, le-ind}
+use Rattle.table.proofs.Common.{lt-ltb, le-ltb, eq-eqb, ne-eqb, kindOf, processOf, Record, Event, Insert, Delete, Find, Step, Stop, Restart}
+use Rattle.table.proofs.Common.{Outcome, Accepted, Memory, State, Answer, Quiet, answerAt, firstOf, at, out, answer, AddressesFit}
 use Rattle.table.proofs.EventCases.{recordAt}
 
 pub record Run : Type 0 where
@@ -70,16 +70,6 @@ first-none (some a) = refl
 cond-same : (b : Bool) (o : Option Answer) → cond b o o ≡ o
 cond-same true o = refl
 cond-same false o = refl
-
-pub answered-or-not : (o : Option Answer) → (o ≡ none) ⊎ ((a : Answer) × (o ≡ some a))
-answered-or-not none = inl refl
-answered-or-not (some a) = inr (a, refl)
-
-pub some-not-none : {A : Type 0} (a : A) → some a ≡ none → ⊥
-some-not-none a q = let z : _≡_ {A = ℕ} 0 1 = cc in omega arith
-
-pub some-same : {A : Type 0} (a b : A) → some a ≡ some b → a ≡ b
-some-same a b q = cc
 
 module _ (ρ : Run) where
   pub answer-stays : (t r : ℕ) (a : Answer) → answerTo ρ t r ≡ some a → answerTo ρ (suc t) r ≡ some a

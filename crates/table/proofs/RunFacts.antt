@@ -1,16 +1,16 @@
 -- What holds of every run from a quiet state, for others to cite: what never changes, hindsight, what a running process's place says of it, and
 -- how the nodes of two open inserts differ. What changes the addresses held is HeldByPlace's `event-held`. Rests on OpenOperations.
 use Rattle.table.proofs.Common.{_≡_, _≢_, _⊎_, ℕ, _≤_, _<_, arith, Idle, Running, Inserts, Deletes, Finds, placeOf, follows}
-use Rattle.table.proofs.Numbered.{linkIn, deleterIn, addressIn, rankIn, Used, On, Marked, rank-inner}
+use Rattle.table.proofs.Numbered.{ownIn, linkIn, deleterIn, addressIn, rankIn, Used, On, Marked, rank-inner}
 use Rattle.table.proofs.Moments.{Later, later, OnSince, hindsight}
-use Rattle.table.proofs.Known.{InsertAt, InsertKept, DeleteAt, FindAt}
-use Rattle.table.proofs.Run.{Run, stateAt, memoryAt, recordThen, kindAt, nodesOf}
+use Rattle.table.proofs.Known.{InsertAt, InsertKept, DeleteAt, FindAt, insert-known, delete-known, find-known}
+use Rattle.table.proofs.Run.{Run, stateAt, memoryAt, recordThen, kindAt}
 use Rattle.table.proofs.RunInvariant.{Busy, Working, working, nodes-differ, invariant}
-use Rattle.table.proofs.OpenOperations.{course, orderly, insert-known, delete-known, find-known}
+use Rattle.table.proofs.OpenOperations.{course, orderly}
 
 module _ (ρ : Run) where
   from-to : (s t : ℕ) → s ≤ t → Later (memoryAt ρ s) (memoryAt ρ t)
-  from-to s t l = later (nodesOf ρ) (memoryAt ρ) s t l (course ρ t)
+  from-to s t l = later (course ρ t) s l
 
   -- ---- what never changes of a node in use
 
@@ -43,8 +43,8 @@ module _ (ρ : Run) where
   on-or-marked s t n l = from-to s t l .stays n
 
   -- a node that was on the chain at s was on it at some moment since with the word that it has now
-  pub in-hindsight : (s t n : ℕ) → s ≤ t → On (memoryAt ρ s) n → OnSince (nodesOf ρ) (memoryAt ρ) s t n
-  in-hindsight s t n l o = hindsight (nodesOf ρ) (memoryAt ρ) s t n l (course ρ t) o
+  pub in-hindsight : (s t n : ℕ) → s ≤ t → On (memoryAt ρ s) n → OnSince (memoryAt ρ) s t n
+  in-hindsight s t n l o = hindsight (course ρ t) s l o
 
   -- ---- processes
 
@@ -56,23 +56,22 @@ module _ (ρ : Run) where
   module _ (t p r : ℕ) (b : Busy ρ t p r) where
     pub insert-place : kindAt ρ r ≡ Inserts → recordThen ρ t p .kept .status ≡ Running
         → InsertAt (memoryAt ρ) r t (recordThen ρ t p) (placeOf (recordThen ρ t p .lost .place))
-    insert-place k = insert-known (memoryAt ρ) r t p (recordThen ρ t p) (ρ .events r) k (b .known) .place
+    insert-place k = insert-known k (b .known) .place
 
     pub delete-place : kindAt ρ r ≡ Deletes → recordThen ρ t p .kept .status ≡ Running
         → DeleteAt (memoryAt ρ) r t p (recordThen ρ t p) (placeOf (recordThen ρ t p .lost .place))
-    delete-place k = delete-known (memoryAt ρ) r t p (recordThen ρ t p) (ρ .events r) k (b .known) .place
+    delete-place k = delete-known k (b .known) .place
 
     pub find-place : kindAt ρ r ≡ Finds → recordThen ρ t p .kept .status ≡ Running
         → FindAt (memoryAt ρ) r t (recordThen ρ t p) (placeOf (recordThen ρ t p .lost .place))
-    find-place k = find-known (memoryAt ρ) r t p (recordThen ρ t p) (ρ .events r) k (b .known) .place
+    find-place k = find-known k (b .known) .place
 
     -- what the kept part of an open insert says, running or down
     pub insert-keeps : kindAt ρ r ≡ Inserts → InsertKept (memoryAt ρ) r t (recordThen ρ t p .kept)
-    insert-keeps k = insert-known (memoryAt ρ) r t p (recordThen ρ t p) (ρ .events r) k (b .known) .kept
+    insert-keeps k = insert-known k (b .known) .kept
 
   -- two open inserts have two nodes
   pub open-inserts-differ : (t p q r r′ : ℕ) → p ≢ q → Busy ρ t p r → Busy ρ t q r′ → kindAt ρ r ≡ Inserts → kindAt ρ r′ ≡ Inserts
-      → recordThen ρ t p .kept .node .0 ≢ recordThen ρ t q .kept .node .0
+      → ownIn (recordThen ρ t p) ≢ ownIn (recordThen ρ t q)
   open-inserts-differ t p q r r′ ne b b′ k k′ = let x = insert-keeps t p r b k in let y = insert-keeps t q r′ b′ k′ in
-      nodes-differ ρ t (invariant ρ t) p q r r′ (recordThen ρ t p .kept .node .0) (recordThen ρ t q .kept .node .0) ne b b′ (x .given) (x .taken)
-      (y .given) (y .taken)
+      nodes-differ ρ t (invariant ρ t) p q r r′ (ownIn (recordThen ρ t p)) (ownIn (recordThen ρ t q)) ne b b′ (x .node) (y .node)

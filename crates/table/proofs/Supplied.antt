@@ -1,15 +1,10 @@
 -- What a run supplies for an order of its history: who changes what is held at which event, and a witness for every other answer.
 -- Rests on Winners, HistoryReads and OrderNeeds.
-use Rattle.table.proofs.Common.{_≡_, sym, _∙_, ap, subst, _≢_, _⊎_, inl, inr, some, ℕ, _<_, arith, node, Inserts, Deletes, True, Fail, does}
-use Rattle.table.proofs.Common.{Answer, Operation, Set, History, at, history, IsHeld}
-use Rattle.table.proofs.OrderNeeds.{Witness, Adds, Removes, Changer, Change, still, by, IsBy, Supplies}
-use Rattle.table.proofs.Reaching.{once}
-use Rattle.table.proofs.Effects.{adds}
-use Rattle.table.proofs.Moments.{held}
+use Rattle.table.proofs.Common.{_≡_, sym, _∙_, ap, subst, _≢_, _⊎_, inl, inr, some, ℕ, _<_, arith, node, Inserts, Deletes, True, Fail, Answer}
+use Rattle.table.proofs.Common.{Operation, Set, History, at, history, IsHeld}
+use Rattle.table.proofs.OrderNeeds.{Witness, Changer, Change, still, by, IsBy, Supplies}
 use Rattle.table.proofs.Run.{Run, kindAt, IsOperation, answerTo}
-use Rattle.table.proofs.OpenOperations.{answered}
-use Rattle.table.proofs.Winners.{InsertEffect, DeleteEffect, TakesEffect, Winner, nobody, somebody, winnerAt, Wins, effect-once}
-use Rattle.table.proofs.Winners.{true-insert-wins, true-delete-wins}
+use Rattle.table.proofs.Winners.{TakesEffect, Winner, nobody, somebody, winnerAt, Wins, effect-once, true-insert-wins, true-delete-wins}
 use Rattle.table.proofs.HistoryReads.{operationFor, asks-insert, asks-delete, operation-asked, operation-is, heldAt, true-or-told}
 
 module _ (ρ : Run) (start : Set) (begin : IsHeld (ρ .start .memory) start) (T : ℕ) where
@@ -25,16 +20,15 @@ module _ (ρ : Run) (start : Set) (begin : IsHeld (ρ .start .memory) start) (T 
     asked = operation-asked ρ T r (x .is);
     begun = omega (arith, x .begun);
     ended = λ v h. (x .ended v h .0, x .ended v h .1);
-    does = go (x .does);
-  }
-    where
-      go : InsertEffect ρ t r ⊎ DeleteEffect ρ T t r → Adds (heldAt ρ) t (asked r) ⊎ Removes (heldAt ρ) t (asked r)
-      go (inl y) = inl (record { kind = asks-insert (ρ .events r) (y .kind); free = y .free; adds = λ a. y .adds (a .0) })
-      go (inr y) = inr (record {
+    does = elim (x .does) [
+      | inl y ↦ inl (record { kind = asks-insert (ρ .events r) (y .kind); free = y .free; adds = λ a. y .adds (a .0) })
+      | inr y ↦ inr (record {
         kind = asks-delete (ρ .events r) (y .kind);
         taken = (node (y .n), y .takes .held);
         removes = λ a. y .takes .removes (a .0);
       })
+    ];
+  }
 
   abbrev changeOf : {t : ℕ} → Winner ρ T t → Change runHistory (heldAt ρ) t
   changeOf (nobody h) = still (λ a. h (a .0))
@@ -42,7 +36,7 @@ module _ (ρ : Run) (start : Set) (begin : IsHeld (ρ .start .memory) start) (T 
 
   is-by-effect : (t r : ℕ) (w : Winner ρ T t) → IsBy (changeOf w) r → TakesEffect ρ T t r
   is-by-effect t r (nobody h) z = absurd z
-  is-by-effect t r (somebody r′ x) z = subst (λ y. TakesEffect ρ T t y) z x
+  is-by-effect t r (somebody r′ x) z = rw z at x
 
   wins-is-by : (t r : ℕ) (w : Winner ρ T t) → Wins ρ w r → IsBy (changeOf w) r
   wins-is-by t r (nobody h) z = z

@@ -1,12 +1,11 @@
--- In a run from a quiet state sizes and table lengths never change, and no event is refused with 7. Rests on LawsSizes and RunInvariant.
-use Rattle.table.proofs.Common.{_≡_, refl, sym, _∙_, ap, _≢_, _⊎_, inl, inr, true, true≢false, ℕ, zero, suc, _≤_, arith, length, le-leb}
-use Rattle.table.proofs.Common.{processOf, Record, Event, Insert, Delete, Find, Step, Stop, Restart, Refused, Accepted, Answered, Memory}
-use Rattle.table.proofs.Common.{Place, p19, placeOf, row, turnIn, Acted, does, tablesFit, State, recordIn, stored, event}
-use Rattle.table.proofs.Common.{at, out}
+-- In a run from a quiet state sizes and table lengths never change, and no event is refused with 7. Rests on
+-- LawsEvents, LawsSizes and OpenOperations.
+use Rattle.table.proofs.Common.{_≡_, refl, sym, _∙_, _≢_, true, true≢false, ℕ, zero, suc, _≤_, arith, length, le-leb, processOf, Record, Event}
+use Rattle.table.proofs.Common.{Insert, Delete, Find, Step, Stop, Restart, Refused, Memory, placeOf, row, turnIn, Acted, does, tablesFit}
+use Rattle.table.proofs.Common.{State, recordIn, stored, event, at, out}
 use Rattle.table.proofs.Meets.{step-meets, insert-meets, act-judged}
+use Rattle.table.proofs.LawsEvents.{accepted-not-refused, says-no-refusal}
 use Rattle.table.proofs.LawsSizes.{SizesStay, sizes-stay}
-use Rattle.table.proofs.KnownWrites.{goesAt, saysAt}
-use Rattle.table.proofs.GoingOn.{GoesOn, goes-on, goes-19}
 use Rattle.table.proofs.Fitting.{sizes-of, fit-of}
 use Rattle.table.proofs.Run.{Run, stateAt, memoryAt, outcomeAt}
 use Rattle.table.proofs.OpenOperations.{orderly}
@@ -16,33 +15,20 @@ use Rattle.table.proofs.OpenOperations.{orderly}
 refused-same : (j k : ℕ) → Refused j ≡ Refused k → j ≡ k
 refused-same j k q = cc
 
-accepted-not-refused : (k : ℕ) → Accepted ≡ Refused k → ⊥
-accepted-not-refused k q = let z : _≡_ {A = ℕ} 0 1 = cc in omega arith
-
-answered-not-refused : (v k : ℕ) → Answered v ≡ Refused k → ⊥
-answered-not-refused v k q = let z : _≡_ {A = ℕ} 0 1 = cc in omega arith
-
--- a row refuses nothing by itself
-row-not-refused : (l : Place) (m : Memory) (p : ℕ) (R : Record) (k : ℕ) → saysAt l m p R ≡ Refused k → ⊥
-row-not-refused l m p R k q = go (goes-on l m p R)
-  where
-    go : (l ≡ p19) ⊎ GoesOn l R (goesAt l m p R) (saysAt l m p R) → ⊥
-    go (inl z) = answered-not-refused (R .lost .pending) k (sym (goes-19 m p R .1) ∙ ap (λ x. saysAt x m p R) (sym z) ∙ q)
-    go (inr g) = accepted-not-refused k (sym (g .says) ∙ q)
-
 abbrev Not7 : Acted → Type 0
 Not7 d = d .outcome ≡ Refused 7 → ⊥
 
 -- an event of a process that is there and has the status it needs
 does-not-7 : (nodes : ℕ) (m : Memory) (R : Record) (e : Event) → Not7 (does nodes m R e)
 unfolding does
-does-not-7 nodes m R (Insert p a) = insert-meets Not7 m R nodes p a (λ q. absurd (omega (arith, refused-same 3 7 q))) (accepted-not-refused 7)
-does-not-7 nodes m R (Delete p a) = accepted-not-refused 7
-does-not-7 nodes m R (Find p a) = accepted-not-refused 7
-does-not-7 nodes m R (Step p) = step-meets Not7 m R p (λ fits. unfold turnIn in row-not-refused (placeOf (R .lost .place)) m (p .0) R 7)
+does-not-7 nodes m R (Insert p a) = insert-meets Not7 m R nodes p a (λ q. absurd (omega (arith, refused-same 3 7 q))) (accepted-not-refused)
+does-not-7 nodes m R (Delete p a) = accepted-not-refused
+does-not-7 nodes m R (Find p a) = accepted-not-refused
+does-not-7 nodes m R (Step p) = step-meets Not7 m R p
+    (λ fits. unfold turnIn in says-no-refusal p R (row (m .addresses) (placeOf (R .lost .place)) R) 7)
     (λ q. absurd (omega (arith, refused-same 8 7 q)))
-does-not-7 nodes m R (Stop p) = accepted-not-refused 7
-does-not-7 nodes m R (Restart p) = accepted-not-refused 7
+does-not-7 nodes m R (Stop p) = accepted-not-refused
+does-not-7 nodes m R (Restart p) = accepted-not-refused
 
 -- an event with tables that fit
 event-not-7 : (σ : State) (e : Event) → σ .processes ≤ length (σ .row) → tablesFit (σ .nodes) (σ .processes) (σ .memory) ≡ true

@@ -1,8 +1,8 @@
 -- What an order shuts out. One insert and two deletes of an address cannot all be true; no find is true where nothing was inserted; an end
 -- that the replay does not give has no order; and no operation that failed stands in one. Rests on History.
 use mathlib.Core.Path.{_≡_, refl, sym, _∙_, ap, subst}
-use mathlib.Core.Logic.{_≢_, _⊎_, inl, inr}
-use mathlib.Core.Bool.{Bool, true, false, cond, not, _&&_, _||_}
+use mathlib.Core.Logic.{_≢_, inl, inr}
+use mathlib.Core.Bool.{and-false, or-true, Bool, true, false, cond, not, _&&_}
 use mathlib.Core.Option.{Option, none, some}
 use mathlib.Core.List.{List, [], _∷_, List·Memᴰ, List·Memᴰ·head, List·Memᴰ·tail, List·Memᴰ·cases-cons, List·Memᴰ·not-nil}
 use Prim.Native.Nat.{ℕ, zero, suc, _+_, _≤_}
@@ -13,38 +13,38 @@ use borrow.Author.Tests.{eq-eqb}
 use Rattle.record.specs.Record.{False, True, Fail}
 use Rattle.record.specs.declared.Process.{Process}
 use Rattle.record.specs.declared.Address.{Address}
-use Rattle.table.specs.History.{Kind, insert, delete, find, Answer, Operation, Set, History, Slot, NoneTwice, says, becomes, worked, SameAnswers, Order}
+use Rattle.table.specs.History.{Kind, insert, delete, find, Answer, Operation, Set, History, Slot, NoneTwice, says, becomes, worked}
+use Rattle.table.specs.History.{SameAnswers, Order}
+
+-- the set after a slot
+abbrev after : Slot → Set → Set
+after x s = becomes (x .operation .kind) (x .operation .address) s
 
 -- ---- an operation that failed does not stand in an order
 
-pub failed-has-no-place : (H : History) (o : Order H) (s : Slot) (v : Answer) → List·Memᴰ s (o .slots) → s .operation .answer ≡ some v → v .value ≡ Fail → ⊥
+pub failed-has-no-place : (H : History) (o : Order H) (s : Slot) (v : Answer) → List·Memᴰ s (o .slots) → s .operation .answer ≡ some v
+    → v .value ≡ Fail → ⊥
 failed-has-no-place H o s v m h f = o .stand s m .ended v h .1 f
 
 -- ---- find true, nothing inserted
 
 empty-stays : (k : Kind) (a : Address) (s : Set) → k ≢ insert → ((x : Address) → s x ≡ false) → (x : Address) → becomes k a s x ≡ false
 empty-stays insert a s n e x = absurd (n refl)
-empty-stays delete a s n e x = rw (e x) (none-left (not (eqb (x .0) (a .0))))
-  where
-    none-left : (b : Bool) → (b && false) ≡ false
-    none-left true = refl
-    none-left false = refl
+empty-stays delete a s n e x = rw (e x) (and-false (not (eqb (x .0) (a .0))))
 empty-stays find a s n e x = e x
 
 finds-nothing : (s : Set) (l : List Slot) → ((x : Address) → s x ≡ false) → ((u : Slot) → List·Memᴰ u l → u .operation .kind ≢ insert)
     → SameAnswers s l → (u : Slot) (v : Answer) → List·Memᴰ u l → u .operation .kind ≡ find → u .operation .answer ≡ some v → v .value ≢ True
 finds-nothing s [] e n z u v m k h t = List·Memᴰ·not-nil m
-finds-nothing s (x ∷ l) e n z u v m k h t = cases (List·Memᴰ·cases-cons m)
-    (λ m′. finds-nothing (becomes (x .operation .kind) (x .operation .address) s) l
-    (empty-stays (x .operation .kind) (x .operation .address) s (n x (List·Memᴰ·head refl)) e) (λ y i. n y (List·Memᴰ·tail i)) (z .1) u v m′ k h t)
+finds-nothing s (x ∷ l) e n z u v m k h t = elim (List·Memᴰ·cases-cons m) [
+  | inl q ↦ absurd (omega (arith, here q))
+  | inr m′ ↦ finds-nothing (after x s) l (empty-stays (x .operation .kind) (x .operation .address) s (n x (List·Memᴰ·head refl)) e)
+      (λ y i. n y (List·Memᴰ·tail i)) (z .1) u v m′ k h t
+]
   where
     here : u ≡ x → v .value ≡ False
     here q = z .0 v (ap (λ y. y .operation .answer) (sym q) ∙ h)
         ∙ ap (λ k. says k (x .operation .address) s) (ap (λ y. y .operation .kind) (sym q) ∙ k) ∙ (rw (e (x .operation .address)) refl)
-
-    cases : (u ≡ x) ⊎ List·Memᴰ u l → (List·Memᴰ u l → ⊥) → ⊥
-    cases (inl q) later = absurd (omega (arith, here q))
-    cases (inr m′) later = later m′
 
 pub find-needs-an-insert : (H : History) → ((a : Address) → H .start a ≡ false) → ((r : ℕ) (o : Operation) → H .asked r ≡ some o → o .kind ≢ insert)
     → (r : ℕ) (o : Operation) (v : Answer) → H .asked r ≡ some o → o .kind ≡ find → o .answer ≡ some v → v .value ≡ True → Order H → ⊥
@@ -57,38 +57,32 @@ find-needs-an-insert H e n r o v a k h t order =
 
 -- where nothing is deleted, an address that is in stays in
 in-stays : (k : Kind) (a b : Address) (s : Set) → k ≢ delete → s a ≡ true → becomes k b s a ≡ true
-in-stays insert a b s n e = rw e (some-left (eqb (a .0) (b .0)))
-  where
-    some-left : (x : Bool) → (x || true) ≡ true
-    some-left true = refl
-    some-left false = refl
+in-stays insert a b s n e = rw e (or-true (eqb (a .0) (b .0)))
 in-stays delete a b s n e = absurd (n refl)
 in-stays find a b s n e = e
 
 all-stay : (a : Address) (s : Set) (l : List Slot) → ((u : Slot) → List·Memᴰ u l → u .operation .kind ≢ delete) → s a ≡ true → worked s l a ≡ true
 all-stay a s [] n e = e
-all-stay a s (x ∷ l) n e = all-stay a (becomes (x .operation .kind) (x .operation .address) s) l (λ u m. n u (List·Memᴰ·tail m))
+all-stay a s (x ∷ l) n e = all-stay a (after x s) l (λ u m. n u (List·Memᴰ·tail m))
     (in-stays (x .operation .kind) a (x .operation .address) s (n x (List·Memᴰ·head refl)) e)
 
 inserted-ends-in : (s : Set) (l : List Slot) → ((u : Slot) → List·Memᴰ u l → u .operation .kind ≢ delete)
     → (u : Slot) → List·Memᴰ u l → u .operation .kind ≡ insert → worked s l (u .operation .address) ≡ true
 inserted-ends-in s [] n u m k = absurd (List·Memᴰ·not-nil m)
-inserted-ends-in s (x ∷ l) n u m k = cases (List·Memᴰ·cases-cons m) (λ m′. inserted-ends-in (becomes (x .operation .kind) (x .operation .address) s) l n′ u m′ k)
+inserted-ends-in s (x ∷ l) n u m k = elim (List·Memᴰ·cases-cons m) [
+  | inl q ↦ all-stay (u .operation .address) (after x s) l n′ (here q)
+  | inr m′ ↦ inserted-ends-in (after x s) l n′ u m′ k
+]
   where
     n′ : (u : Slot) → List·Memᴰ u l → u .operation .kind ≢ delete
     n′ y i = n y (List·Memᴰ·tail i)
 
-    here : u ≡ x → becomes (x .operation .kind) (x .operation .address) s (u .operation .address) ≡ true
-    here q = subst (λ y. becomes (y .operation .kind) (y .operation .address) s (u .operation .address) ≡ true) q
-        (rw (k, eq-eqb (u .operation .address .0) (u .operation .address .0) refl) refl)
-
-    cases : (u ≡ x) ⊎ List·Memᴰ u l → (List·Memᴰ u l → worked (becomes (x .operation .kind) (x .operation .address) s) l (u .operation .address) ≡ true)
-        → worked (becomes (x .operation .kind) (x .operation .address) s) l (u .operation .address) ≡ true
-    cases (inl q) later = all-stay (u .operation .address) (becomes (x .operation .kind) (x .operation .address) s) l n′ (here q)
-    cases (inr m′) later = later m′
+    here : u ≡ x → after x s (u .operation .address) ≡ true
+    here q = subst (λ y. after y s (u .operation .address) ≡ true) q (rw (k, eq-eqb (u .operation .address .0) (u .operation .address .0) refl) refl)
 
 pub inserted-is-held-at-the-end : (H : History) → ((r : ℕ) (o : Operation) → H .asked r ≡ some o → o .kind ≢ delete)
-    → (r : ℕ) (o : Operation) (v : Answer) → H .asked r ≡ some o → o .kind ≡ insert → o .answer ≡ some v → v .value ≡ True → Order H → H .finish (o .address)
+    → (r : ℕ) (o : Operation) (v : Answer) → H .asked r ≡ some o → o .kind ≡ insert → o .answer ≡ some v → v .value ≡ True → Order H
+    → H .finish (o .address)
 inserted-is-held-at-the-end H n r o v a k h t order =
     let m = order .whole r o v a h (λ f. absurd (omega arith)) in
     order .ends (o .address) .0 (inserted-ends-in (H .start) (order .slots) (λ u i. n (u .request) (u .operation) (order .stand u i .asked))
@@ -143,14 +137,15 @@ takes-one find a s t = omega arith
 balance : (a : Address) (s : Set) (l : List Slot) → ((u : Slot) → List·Memᴰ u l → TrueOf a (u .operation)) → SameAnswers s l
     → count deletes l ≤ bit (s a) + count inserts l
 balance a s [] t z = omega arith
-balance a s (x ∷ l) t z = omega (arith, balance a (becomes (x .operation .kind) (x .operation .address) s) l (λ u m. t u (List·Memᴰ·tail m)) (z .1), one)
+balance a s (x ∷ l) t z = omega (arith, balance a (after x s) l (λ u m. t u (List·Memᴰ·tail m)) (z .1), one)
   where
     of : TrueOf a (x .operation)
     of = t x (List·Memᴰ·head refl)
 
     one : deletes (x .operation .kind) + bit (becomes (x .operation .kind) (x .operation .address) s a) ≤ bit (s a) + inserts (x .operation .kind)
     one = subst
-        (λ b. deletes (x .operation .kind) + bit (becomes (x .operation .kind) (x .operation .address) s b) ≤ bit (s b) + inserts (x .operation .kind))
+        (λ b. deletes (x .operation .kind) + bit (becomes (x .operation .kind) (x .operation .address) s b) ≤ bit (s b) + inserts
+        (x .operation .kind))
         (of .address) (takes-one (x .operation .kind) (x .operation .address) s (z .0 _ (of .answer)))
 
 no-more : (r : ℕ) (l : List Slot) → ((u : Slot) → List·Memᴰ u l → u .operation .kind ≡ insert → u .request ≡ r)
@@ -164,7 +159,8 @@ no-more r (x ∷ l) i n = kind (x .operation .kind) refl (no-more r l (λ u m. i
     kind find q rest = omega arith
 
 -- one insert
-at-most-one : (r : ℕ) (l : List Slot) → ((u : Slot) → List·Memᴰ u l → u .operation .kind ≡ insert → u .request ≡ r) → NoneTwice l → count inserts l ≤ 1
+at-most-one : (r : ℕ) (l : List Slot) → ((u : Slot) → List·Memᴰ u l → u .operation .kind ≡ insert → u .request ≡ r) → NoneTwice l
+    → count inserts l ≤ 1
 at-most-one r [] i n = omega arith
 at-most-one r (x ∷ l) i n = kind (x .operation .kind) refl (at-most-one r l i′ (n .1))
   where
@@ -179,23 +175,24 @@ at-most-one r (x ∷ l) i n = kind (x .operation .kind) refl (at-most-one r l i�
 -- two deletes
 one-delete : (u : Slot) (l : List Slot) → List·Memᴰ u l → u .operation .kind ≡ delete → 1 ≤ count deletes l
 one-delete u [] m k = absurd (List·Memᴰ·not-nil m)
-one-delete u (x ∷ l) m k = cases (List·Memᴰ·cases-cons m) (λ m′. one-delete u l m′ k)
-  where
-    cases : (u ≡ x) ⊎ List·Memᴰ u l → (List·Memᴰ u l → 1 ≤ count deletes l) → 1 ≤ deletes (x .operation .kind) + count deletes l
-    cases (inl q) later = rw (ap (λ y. y .operation .kind) (sym q) ∙ k) (omega arith)
-    cases (inr m′) later = omega (arith, later m′)
+one-delete u (x ∷ l) m k = elim (List·Memᴰ·cases-cons m) [
+  | inl q ↦ rw (ap (λ y. y .operation .kind) (sym q) ∙ k) (omega arith)
+  | inr m′ ↦ omega (arith, one-delete u l m′ k)
+]
 
 two-deletes : (u v : Slot) (l : List Slot) → u .request ≢ v .request → List·Memᴰ u l → List·Memᴰ v l
     → u .operation .kind ≡ delete → v .operation .kind ≡ delete → 2 ≤ count deletes l
 two-deletes u v [] n m i k j = absurd (List·Memᴰ·not-nil m)
-two-deletes u v (x ∷ l) n m i k j = cases (List·Memᴰ·cases-cons m) (List·Memᴰ·cases-cons i) (λ m′ i′. two-deletes u v l n m′ i′ k j)
-  where
-    cases : (u ≡ x) ⊎ List·Memᴰ u l → (v ≡ x) ⊎ List·Memᴰ v l → (List·Memᴰ u l → List·Memᴰ v l → 2 ≤ count deletes l)
-        → 2 ≤ deletes (x .operation .kind) + count deletes l
-    cases (inl p) (inl q) later = absurd (n (ap (λ y. y .request) (p ∙ sym q)))
-    cases (inl p) (inr i′) later = rw (ap (λ y. y .operation .kind) (sym p) ∙ k) (omega (arith, one-delete v l i′ j))
-    cases (inr m′) (inl q) later = rw (ap (λ y. y .operation .kind) (sym q) ∙ j) (omega (arith, one-delete u l m′ k))
-    cases (inr m′) (inr i′) later = omega (arith, later m′ i′)
+two-deletes u v (x ∷ l) n m i k j = elim (List·Memᴰ·cases-cons m) [
+  | inl p ↦ elim (List·Memᴰ·cases-cons i) [
+    | inl q ↦ absurd (n (ap (λ y. y .request) (p ∙ sym q)))
+    | inr i′ ↦ rw (ap (λ y. y .operation .kind) (sym p) ∙ k) (omega (arith, one-delete v l i′ j))
+  ]
+  | inr m′ ↦ elim (List·Memᴰ·cases-cons i) [
+    | inl q ↦ rw (ap (λ y. y .operation .kind) (sym q) ∙ j) (omega (arith, one-delete u l m′ k))
+    | inr i′ ↦ omega (arith, two-deletes u v l n m′ i′ k j)
+  ]
+]
 
 -- whoever asked, and whenever they were answered; all three may be under way at once
 module _ (p q r : Process) (a : Address) (t₀ t₁ t₂ events : ℕ) (finish : Address → Type 0) where

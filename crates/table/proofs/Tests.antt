@@ -1,10 +1,13 @@
--- Tests on numbers as facts: to go by cases over a `cond` in a goal. Assumes nothing.
+-- Tests on numbers as facts, to go by cases over a `cond` in a goal; booleans and options by cases. Assumes nothing.
 use mathlib.Core.Path.{_≡_, refl}
-use mathlib.Core.Logic.{_≢_}
+use mathlib.Core.Logic.{_≢_, _⊎_, inl, inr}
 use mathlib.Core.Bool.{Bool, true, false, cond, not, _&&_, false≢true}
-use Prim.Native.Nat.{ℕ, _≤_, _<_}
+use mathlib.Core.Option.{Option, none, some}
+use mathlib.Core.List.{List, [], _∷_}
+use Prim.Native.Nat.{ℕ, zero, suc, _≤_, _<_}
 use lib.Dec.{leb, ltb, eqb}
-use borrow.Author.Tests.{ltb-true, ltb-false, leb-true, leb-false, eqb-true, eqb-false}
+use lib.ListN.{getD}
+use borrow.Author.Tests.{ltb-true, ltb-false, leb-true, leb-false, eqb-true, eqb-false, not-true, not-false}
 
 -- a goal that holds a `cond`, by cases: P says where it stands
 module _ {ℓ κ} {A : Type ℓ} (P : A → Type κ) where
@@ -15,11 +18,23 @@ module _ {ℓ κ} {A : Type ℓ} (P : A → Type κ) where
   pub if-eq : (a b : ℕ) {x y : A} → (a ≡ b → P x) → (a ≢ b → P y) → P (cond (eqb a b) x y)
   if-eq a b f g = if (eqb a b) (λ e. f (eqb-true a b e)) (λ e. g (eqb-false a b e))
 
+  pub if-ne : (a b : ℕ) {x y : A} → (a ≢ b → P x) → (a ≡ b → P y) → P (cond (not (eqb a b)) x y)
+  if-ne a b f g = if (not (eqb a b)) (λ e. f (eqb-false a b (not-true (eqb a b) e))) (λ e. g (eqb-true a b (not-false (eqb a b) e)))
+
   pub if-lt : (a b : ℕ) {x y : A} → (a < b → P x) → (b ≤ a → P y) → P (cond (ltb a b) x y)
   if-lt a b f g = if (ltb a b) (λ e. f (ltb-true a b e)) (λ e. g (ltb-false a b e))
 
   pub if-le : (a b : ℕ) {x y : A} → (a ≤ b → P x) → (b < a → P y) → P (cond (leb a b) x y)
   if-le a b f g = if (leb a b) (λ e. f (leb-true a b e)) (λ e. g (leb-false a b e))
+
+-- any goal, by a test's two cases
+pub by-test {κ} : {X : Type κ} (b : Bool) → (b ≡ true → X) → (b ≡ false → X) → X
+by-test true f g = f refl
+by-test false f g = g refl
+
+-- a goal that holds a test several times
+pub test-eq {κ} : (P : Bool → Type κ) (a b : ℕ) → (a ≡ b → P true) → (a ≢ b → P false) → P (eqb a b)
+test-eq P a b f g = by-test (eqb a b) (λ e. rw e (f (eqb-true a b e))) (λ e. rw e (g (eqb-false a b e)))
 
 -- of a conjunction
 pub and-left : (a b : Bool) → (a && b) ≡ true → a ≡ true
@@ -30,6 +45,22 @@ pub and-right : (a b : Bool) → (a && b) ≡ true → b ≡ true
 and-right true b e = e
 and-right false b e = absurd (false≢true e)
 
-pub and-false : (a : Bool) → (a && false) ≡ false
-and-false true = refl
-and-false false = refl
+-- of conditions joined from the left, each by its number
+abbrev pub joined : Bool → List Bool → Bool
+joined b [] = b
+joined b (c ∷ cs) = joined (b && c) cs
+
+pub each-true : (b : Bool) (cs : List Bool) → joined b cs ≡ true → (n : ℕ) → getD (b ∷ cs) n true ≡ true
+each-true b [] h zero = h
+each-true b [] h (suc n) = refl
+each-true b (c ∷ cs) h zero = and-left b c (each-true (b && c) cs h zero)
+each-true b (c ∷ cs) h (suc zero) = and-right b c (each-true (b && c) cs h zero)
+each-true b (c ∷ cs) h (suc (suc n)) = each-true (b && c) cs h (suc n)
+
+pub not-true-false : (b : Bool) → (b ≡ true → ⊥) → b ≡ false
+not-true-false true h = absurd (h refl)
+not-true-false false h = refl
+
+pub none-or-some : {A : Type 0} (x : Option A) → (x ≡ none) ⊎ ((a : A) × (x ≡ some a))
+none-or-some none = inl refl
+none-or-some (some a) = inr (a, refl)
