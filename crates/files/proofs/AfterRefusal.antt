@@ -14,17 +14,18 @@ use Rattle.files.specs.Refusals.{Faulty, at-nodes, at-processes, HeaderR
 use Rattle.files.specs.Stands.{Holds}
 use Rattle.files.specs.Looked.{Looked}
 use Rattle.files.proofs.Numbers.{bytes-after}
+use Rattle.files.proofs.Items.{joined}
 use Rattle.files.proofs.ReadAll.{read-refused}
 use Rattle.files.proofs.Files.{reads-as, says-read, file-read}
 use Rattle.files.proofs.Accepted.{refused-file, header-refused-exactly}
-use Rattle.files.proofs.Looked.{looked-at}
+use Rattle.files.proofs.Looked.{same-fault, looked-at}
 
 -- bytes after bytes in two parts, and in three
 longer : (s a rest t : List ℕ) → s ≡ a ++ rest → s ++ t ≡ a ++ (rest ++ t)
 longer s a rest t e = ap (λ (r : List ℕ). r ++ t) e ∙ append-assoc a rest t
 
 longer² : (s a b rest t : List ℕ) → s ≡ a ++ (b ++ rest) → s ++ t ≡ a ++ (b ++ (rest ++ t))
-longer² s a b rest t e = longer s a (b ++ rest) t e ∙ ap (λ (r : List ℕ). a ++ r) (append-assoc b rest t)
+longer² s a b rest t e = ap (λ (r : List ℕ). r ++ t) e ∙ joined a b rest t
 
 -- bytes refused with 5 or 6 are refused so whatever follows them
 pub refused-whatever-follows : (s t : List ℕ) (n : ℕ) → Bytes s → n ≢ 4 → nextItem s ≡ refuses n → nextItem (s ++ t) ≡ refuses n
@@ -63,15 +64,7 @@ module _ (s : List ℕ) (h : Header) (items : List Item) (left : List ℕ) (n : 
       )
 
 faulty-longer : (s t : List ℕ) → Faulty s → Faulty (s ++ t)
-faulty-longer s t f =
-    record {
-      groups = f .groups;
-      byte = f .byte;
-      rest = f .rest ++ t;
-      stands = longer s (f .groups) (f .byte ∷ f .rest) t (f .stands);
-      promise = f .promise;
-      fault = f .fault;
-    }
+faulty-longer s t f = same-fault f (s ++ t) (f .rest ++ t) (longer s (f .groups) (f .byte ∷ f .rest) t (f .stands))
 
 header-longer : (s t : List ℕ) (n : ℕ) → n ≢ 4 → length (s ++ t) ≤ 65536 → HeaderRefused s n → HeaderRefused (s ++ t) n
 header-longer s t n not4 short (file-too-long is long) = absurd (omega (arith, length-append s t))

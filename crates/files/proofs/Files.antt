@@ -2,20 +2,19 @@
 use mathlib.Core.Path.{_≡_, refl, sym, ap, _∙_, subst}
 use mathlib.Core.Logic.{inl, inr, _↔_}
 use mathlib.Core.List.{List, [], _∷_, _++_, append-assoc, append-nil}
-use Prim.Native.Nat.{ℕ, zero, suc, _≤_, _<_}
-use native.Mathlib.Omega.{arith}
+use Prim.Native.Nat.{ℕ, _≤_}
+use borrow.Author.Tests.{lt-ltb, le-ltb}
 use lib.ListN.{length}
+use Rattle.table.proofs.Tests.{if-lt}
 use Rattle.schedule.specs.declared.Header.{Header}
 use Rattle.schedule.specs.Numbers.{Read, got, stops}
 use Rattle.schedule.specs.Encoding.{Item, itemBytes, itemsBytes, headerBytes}
-use Rattle.schedule.specs.Reading.{Reading, reading, before, readHeader, NextItem, end, item, refuses, nextItem, File, badHeader, file, readFile}
+use Rattle.schedule.specs.Reading.{Reading, reading, before, readHeader, nextItem, File, badHeader, file, readFile}
 use Rattle.schedule.specs.Reading.{readAll}
 use Rattle.files.specs.Fits.{Each, Bytes, HeaderFits, ItemFits}
 use Rattle.files.specs.Refusals.{Missing, Faulty, HeaderRefused, file-too-long, header-ends, header-number, sizes-outside}
 use Rattle.files.specs.Stands.{Ends, Says}
-use Rattle.files.proofs.Cases.{if-lt}
-use Rattle.files.proofs.Follows.{Next, next, follows-shorter}
-use Rattle.files.proofs.ReadAll.{read-end, read-item, read-refused}
+use Rattle.files.proofs.ReadAll.{read-end, read-item, read-refused, item-by-item}
 use Rattle.files.proofs.Numbers.{bytes-after, missing-stops, faulty-stops}
 use Rattle.files.proofs.Items.{NextTells, next-tells, next-item, next-refused}
 use Rattle.files.proofs.Headers.{HeaderTells, header-tells, header-read, at-size-stops, sizes-stop}
@@ -58,21 +57,15 @@ stood-item s i left x e fits t =
       ends = t .ends;
     }
 
-items-stood : (turns : ℕ) (s : List ℕ) → length s < turns → Bytes s → Stood s (readAll s)
+items-stood : (s : List ℕ) → Bytes s → Stood s (readAll s)
 unfolding itemsBytes
-items-stood zero s l bytes = absurd (omega arith)
-items-stood (suc turns) s l bytes =
-    by-next (λ left. items-stood turns left) (nextItem s) refl (next s) (next-tells s bytes)
-  where
-    by-next : ((left : List ℕ) → length left < turns → Bytes left → Stood left (readAll left))
-        → (n : NextItem) → nextItem s ≡ n → Next s n → NextTells s n → Stood s (readAll s)
-    by-next again end e f t = subst (Stood s) (sym (read-end s e)) (record { items-fit = tt; bytes = refl; ends = inl (t, refl) })
-    by-next again (item i left) e f t =
-        let shorter : length left < length s = follows-shorter (f .0) in
-        subst (Stood s) (sym (read-item s i left e))
-        (stood-item s i left (readAll left) (t .0) (t .1)
-        (again left (omega arith) (bytes-after (itemBytes i) left (subst Bytes (t .0) bytes))))
-    by-next again (refuses n) e f t = subst (Stood s) (sym (read-refused s n e)) (record { items-fit = tt; bytes = refl; ends = inr t })
+items-stood =
+    item-by-item (λ s x. Bytes s → Stood s x)
+    (λ s e bytes. record { items-fit = tt; bytes = refl; ends = inl (subst (NextTells s) e (next-tells s bytes), refl) })
+    (λ s i left e _ stood bytes.
+    let t = subst (NextTells s) e (next-tells s bytes) in
+    stood-item s i left (readAll left) (t .0) (t .1) (stood (bytes-after (itemBytes i) left (subst Bytes (t .0) bytes))))
+    (λ s n e bytes. record { items-fit = tt; bytes = refl; ends = inr (subst (NextTells s) e (next-tells s bytes)) })
 
 -- ---- a whole file
 
@@ -88,7 +81,7 @@ read-says s bytes =
   where
     by-header : length s ≤ 65536 → (r : Read Header) → HeaderTells s r → Says s (fileOf r)
     by-header short (got h left) t =
-        let stood : Stood left (readAll left) = items-stood (suc (length left)) left (omega arith) (bytes-after (headerBytes h) left (subst Bytes (t .0) bytes)) in
+        let stood : Stood left (readAll left) = items-stood left (bytes-after (headerBytes h) left (subst Bytes (t .0) bytes)) in
         record {
           short = short;
           header-fits = t .1;
@@ -101,13 +94,11 @@ read-says s bytes =
 -- and what stands there is read
 read-by-header : (s : List ℕ) (r : Read Header) → length s ≤ 65536 → readHeader s ≡ r → readFile s ≡ fileOf r
 unfolding readFile readAll
-read-by-header s r short e =
-    if-lt (λ (f : File). f ≡ fileOf r) 65536 (length s) (λ long. absurd (omega arith)) (λ _. ap fileOf e)
+read-by-header s r short e = rw (le-ltb 65536 (length s) short) (ap fileOf e)
 
 refused-read : (s : List ℕ) (n : ℕ) → HeaderRefused s n → readFile s ≡ badHeader n
 unfolding readFile
-refused-read s n (file-too-long is long) =
-    if-lt (λ (f : File). f ≡ badHeader n) 65536 (length s) (λ _. ap badHeader (sym is)) (λ short. absurd (omega arith))
+refused-read s n (file-too-long is long) = rw (lt-ltb 65536 (length s) long, is)
 refused-read s n (header-ends is short there) =
     read-by-header s (stops 4) short (at-size-stops Missing 4 missing-stops s there) ∙ ap badHeader (sym is)
 refused-read s n (header-number is short there) =

@@ -1,32 +1,31 @@
 -- A header as bytes: what is written is read, what is read was written, and what stands where it is refused. Rests on Numbers.
-use mathlib.Core.Path.{_≡_, refl, sym, ap, _∙_, subst}
+use mathlib.Core.Path.{_≡_, refl, sym, ap, _∙_}
 use mathlib.Core.Logic.{_⊎_, inl, inr}
-use mathlib.Core.Bool.{Bool, true, false, _&&_}
+use mathlib.Core.Bool.{true, false}
 use mathlib.Core.List.{List, _++_, append-assoc}
 use Prim.Native.Nat.{ℕ, _≤_}
 use native.Mathlib.Omega.{arith}
-use lib.Dec.{T, leb, leb→le}
+use borrow.Author.Tests.{leb-true}
+use lib.Dec.{leb}
 use lib.ListN.{length}
 use Rattle.table.specs.Events.{sizesFit}
+use Rattle.table.proofs.Tests.{if, and-left, and-right}
 use Rattle.schedule.specs.declared.Header.{Header}
 use Rattle.schedule.specs.Numbers.{numberBytes, Read, got, stops, _then_, readNumber}
 use Rattle.schedule.specs.Encoding.{headerBytes}
 use Rattle.schedule.specs.Reading.{readHeader}
+use Rattle.schedule.proofs.Follows.{Tells, after}
 use Rattle.files.specs.Fits.{Bytes, Fits32, HeaderFits}
 use Rattle.files.specs.Refusals.{Missing, Faulty, AtSize, at-nodes, at-processes, HeaderRefused, header-ends, header-number, sizes-outside}
-use Rattle.files.proofs.Cases.{Tells, after, if-so, and-first, and-second}
 use Rattle.files.proofs.Numbers.{number-read, number-tells, after-number}
 
 -- sizes within the limits are numbers that fit
 sizes-fit-32 : (nodes processes : ℕ) → sizesFit nodes processes ≡ true → Fits32 nodes × Fits32 processes
 unfolding sizesFit
-sizes-fit-32 nodes processes e = by-tests (leb 2 nodes) (leb nodes 4096) (leb 1 processes) (leb processes 64) refl refl (subst T (sym e) tt)
-  where
-    by-tests : (a b c d : Bool) → leb nodes 4096 ≡ b → leb processes 64 ≡ d → T (a && b && c && d) → Fits32 nodes × Fits32 processes
-    by-tests a b c d is-b is-d t =
-        let tb : T b = and-second a b (and-first (a && b) c (and-first (a && b && c) d t)) in
-        let td : T d = and-second (a && b && c) d t in
-        (omega (arith, leb→le nodes 4096 (subst T (sym is-b) tb)), omega (arith, leb→le processes 64 (subst T (sym is-d) td)))
+sizes-fit-32 nodes processes e =
+    let few-nodes : leb nodes 4096 ≡ true = search (and-left, and-right) in
+    let few-processes : leb processes 64 ≡ true = search (and-left, and-right) in
+    (omega (arith, leb-true nodes 4096 few-nodes), omega (arith, leb-true processes 64 few-processes))
 
 -- a header written is read, with what stands after it left
 pub header-read : (h : Header) (rest : List ℕ) → HeaderFits h → readHeader (headerBytes h ++ rest) ≡ got h rest
@@ -56,7 +55,7 @@ header-tells s bytes =
     (λ nodes t x. after (HeaderTells s) (readNumber t) _ (number-tells t (after-number s nodes t (x .0) bytes))
     (λ processes left y.
     let stands : s ≡ numberBytes nodes ++ (numberBytes processes ++ left) = x .0 ∙ ap (λ (r : List ℕ). numberBytes nodes ++ r) (y .0) in
-    if-so (HeaderTells s) (sizesFit nodes processes)
+    if (HeaderTells s) (sizesFit nodes processes)
     (λ fits. (stands ∙ sym (append-assoc (numberBytes nodes) (numberBytes processes) left), fits))
     (λ outside short. sizes-outside refl short nodes processes left (x .1) (y .1) stands outside))
     (λ n y. size-refused s t n (λ P there. at-processes nodes t (x .1) (x .0) there) y))

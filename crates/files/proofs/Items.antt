@@ -1,31 +1,28 @@
 -- Items as bytes: what is written is read, what is read was written, and what stands where an item is refused. Rests on Numbers.
-use mathlib.Core.Path.{_≡_, refl, sym, ap, _∙_, subst}
+use mathlib.Core.Path.{_≡_, refl, sym, ap, _∙_}
 use mathlib.Core.Logic.{_≢_, _⊎_, inl, inr}
 use mathlib.Core.Bool.{cond, _&&_}
-use mathlib.Core.List.{List, [], _∷_, _++_, append-assoc}
+use mathlib.Core.List.{List, [], _∷_, _++_, append-assoc, cons≢nil}
 use Prim.Native.Nat.{ℕ, zero, suc, _≤_, _<_}
 use native.Mathlib.Omega.{arith}
+use borrow.Author.Tests.{lt-ltb, le-ltb, le-leb, lt-leb}
 use lib.Dec.{leb}
 use Rattle.record.specs.Record.{process, address}
 use Rattle.record.specs.declared.Event.the-variants.{Insert, Delete, Find, Step, Stop, Restart}
+use Rattle.table.proofs.Tests.{if-lt, if-le}
 use Rattle.schedule.specs.Numbers.{numberBytes, Read, got, stops, _then_, readNumber}
 use Rattle.schedule.specs.Encoding.{addressBytes, eventBytes, Item, single, burst, itemBytes}
-use Rattle.schedule.specs.Reading.{readItem, readRest, readBurst, request, move, NextItem, end, item, refuses, nextItem}
+use Rattle.schedule.specs.Reading.{readItem, readRest, readBurst, request, move, NextItem, end, item, refuses, standing, nextItem}
+use Rattle.schedule.proofs.Follows.{Tells, after}
 use Rattle.files.specs.Fits.{Bytes, Fits32, ItemFits}
-use Rattle.files.specs.Refusals.{Missing, Faulty, AtNumber, at-kind, at-process, at-last, Refused, ends-inside, kind-above-6, count-outside, bad-number}
-use Rattle.files.proofs.Cases.{Tells, after, if-lt, if-le, if-within}
+use Rattle.files.specs.Refusals.{Missing, Faulty, AtNumber, at-kind, at-process, at-last}
+use Rattle.files.specs.Refusals.{Refused, ends-inside, kind-above-6, count-outside, bad-number}
+use Rattle.files.proofs.Cases.{if-within}
 use Rattle.files.proofs.Numbers.{number-read, number-tells, after-number, missing-stops, faulty-stops}
-
-abbrev IsCons : List ℕ → Type 0
-IsCons [] = ⊥
-IsCons (b ∷ s) = Unit
-
-pub cons-not-nil : {b : ℕ} {s : List ℕ} → b ∷ s ≡ [] → ⊥
-cons-not-nil e = subst IsCons e tt
 
 -- three parts in a row, and what stands after them
 pub joined : (a b c rest : List ℕ) → (a ++ (b ++ c)) ++ rest ≡ a ++ (b ++ (c ++ rest))
-joined a b c rest = append-assoc a (b ++ c) rest ∙ ap (λ (r : List ℕ). a ++ r) (append-assoc b c rest)
+joined a b c rest = simp append-assoc
 
 -- ---- what is written is read
 
@@ -33,11 +30,7 @@ joined a b c rest = append-assoc a (b ++ c) rest ∙ ap (λ (r : List ℕ). a ++
 kind-read : (kind : ℕ) (rest : List ℕ) → kind ≤ 6
     → readItem (numberBytes kind ++ rest) ≡ (readNumber rest then λ p s. readRest kind (process p) s)
 unfolding readItem _then_
-kind-read kind rest l =
-    rw (number-read kind rest (omega arith))
-    (if-lt (λ (r : Read Item). r ≡ (readNumber rest then λ p s. readRest kind (process p) s)) 6 kind
-    (λ above. absurd (omega arith))
-    (λ _. refl))
+kind-read kind rest l = rw (number-read kind rest (omega arith), le-ltb 6 kind l)
 
 opening-read : (kind p : ℕ) (rest : List ℕ) → kind ≤ 6 → Fits32 p
     → readItem (numberBytes kind ++ (numberBytes p ++ rest)) ≡ readRest kind (process p) rest
@@ -48,32 +41,20 @@ request-read : (kind p a : ℕ) (rest : List ℕ) → kind ≤ 2 → Fits32 p �
     → readItem ((numberBytes kind ++ (numberBytes p ++ numberBytes a)) ++ rest) ≡ got (single (request kind (process p) (address a))) rest
 unfolding readRest _then_
 request-read kind p a rest l u v =
-    ap readItem (joined (numberBytes kind) (numberBytes p) (numberBytes a) rest)
-    ∙ opening-read kind p (numberBytes a ++ rest) (omega arith) u
-    ∙ if-le (λ (r : Read Item). r ≡ got (single (request kind (process p) (address a))) rest) kind 2
-    (λ _. rw (number-read a rest v))
-    (λ above. absurd (omega arith))
+    rw (joined, opening-read kind p (numberBytes a ++ rest) (omega arith) u, le-leb kind 2 l, number-read a rest v)
 
 move-read : (kind p : ℕ) (rest : List ℕ) → 2 < kind → kind ≤ 5 → Fits32 p
     → readItem ((numberBytes kind ++ (numberBytes p ++ [])) ++ rest) ≡ got (single (move kind (process p))) rest
 unfolding readRest
 move-read kind p rest l m u =
-    ap readItem (joined (numberBytes kind) (numberBytes p) [] rest)
-    ∙ opening-read kind p rest (omega arith) u
-    ∙ if-le (λ (r : Read Item). r ≡ got (single (move kind (process p))) rest) kind 2
-    (λ below. absurd (omega arith))
-    (λ _. if-le (λ (r : Read Item). r ≡ got (single (move kind (process p))) rest) kind 5 (λ _. refl) (λ above. absurd (omega arith)))
+    rw (joined (numberBytes kind) (numberBytes p) [] rest, opening-read kind p rest (omega arith) u, lt-leb kind 2 l, le-leb kind 5 m)
 
 burst-read : (p count : ℕ) (rest : List ℕ) → Fits32 p → 1 ≤ count → count ≤ 255
     → readItem ((numberBytes 6 ++ (numberBytes p ++ numberBytes count)) ++ rest) ≡ got (burst (process p) count) rest
 unfolding readRest readBurst _then_
 burst-read p count rest u l m =
-    ap readItem (joined (numberBytes 6) (numberBytes p) (numberBytes count) rest)
-    ∙ opening-read 6 p (numberBytes count ++ rest) (omega arith) u
-    ∙ rw (number-read count rest (omega arith))
-    (if-within (λ (r : Read Item). r ≡ got (burst (process p) count) rest) 1 count 255
-    (λ _ _. refl)
-    (λ out. absurd (elim out [ inl x ↦ omega arith | inr x ↦ omega arith ])))
+    rw (joined, opening-read 6 p (numberBytes count ++ rest) (omega arith) u)
+    (rw (number-read count rest (omega arith), le-leb 1 count l, le-leb count 255 m))
 
 -- an item written is read, with what stands after it left
 pub item-read : (i : Item) (rest : List ℕ) → ItemFits i → readItem (itemBytes i ++ rest) ≡ got i rest
@@ -172,12 +153,8 @@ item-tells s bytes =
 
 last-stops : (kind p : ℕ) (t : List ℕ) (n : ℕ) → (kind ≤ 2) ⊎ (kind ≡ 6) → readNumber t ≡ stops n → readRest kind (process p) t ≡ stops n
 unfolding readRest readBurst _then_
-last-stops kind p t n three stop =
-    if-le (λ (r : Read Item). r ≡ stops n) kind 2
-    (λ _. rw stop)
-    (λ above. if-le (λ (r : Read Item). r ≡ stops n) kind 5
-    (λ below. absurd (elim three [ inl x ↦ omega arith | inr x ↦ omega arith ]))
-    (λ _. rw stop))
+last-stops kind p t n (inl l) stop = rw (le-leb kind 2 l, stop)
+last-stops kind p t n (inr six) stop = rw (six, stop)
 
 -- where one of an event's numbers can't be read
 at-number-stops : (P : List ℕ → Type 0) (n : ℕ) → ((t : List ℕ) → P t → readNumber t ≡ stops n) → (s : List ℕ) → AtNumber P s
@@ -194,8 +171,7 @@ unfolding readItem readRest readBurst _then_
 refused-stops s n (ends-inside is some there) = at-number-stops Missing 4 missing-stops s there ∙ ap stops (sym is)
 refused-stops s n (bad-number is there) = at-number-stops Faulty 6 faulty-stops s there ∙ ap stops (sym is)
 refused-stops s n (kind-above-6 is kind rest l u e) =
-    ap readItem e
-    ∙ rw (number-read kind rest u) (if-lt (λ (r : Read Item). r ≡ stops n) 6 kind (λ _. ap stops (sym is)) (λ below. absurd (omega arith)))
+    ap readItem e ∙ rw (number-read kind rest u, lt-ltb 6 kind l, is)
 refused-stops s n (count-outside is p count rest u v out e) =
     ap readItem e
     ∙ opening-read 6 p (numberBytes count ++ rest) (omega arith) u
@@ -217,42 +193,35 @@ unfolding nextItem
 next-tells [] bytes = refl
 next-tells (b ∷ s) bytes = by-item (readItem (b ∷ s)) (item-tells (b ∷ s) bytes)
   where
-    by-item : (r : Read Item) → ItemTells (b ∷ s) r → NextTells (b ∷ s) (elim r [ got i left ↦ item i left | stops n ↦ refuses n ])
+    by-item : (r : Read Item) → ItemTells (b ∷ s) r → NextTells (b ∷ s) (standing r)
     by-item (got i left) t = t
-    by-item (stops n) t = t (λ e. cons-not-nil e)
-
--- what was read, as what stands next
-abbrev answerOf : Read Item → NextItem
-answerOf r = elim r [ got i left ↦ item i left | stops n ↦ refuses n ]
-
--- the number of a refusal, 0 where there is none
-abbrev stopOf : Read Item → ℕ
-stopOf (got i left) = 0
-stopOf (stops n) = n
-
--- of no bytes nothing is read, for want of a byte
-empty-stops : (r : Read Item) → readItem [] ≡ r → stopOf r ≡ 4
-unfolding readItem readNumber _then_
-empty-stops r e = sym (ap stopOf e)
+    by-item (stops n) t = t (λ e. cons≢nil e)
 
 pub next-nothing : nextItem [] ≡ end
 unfolding nextItem
 next-nothing = refl
 
+-- of no bytes nothing is read, for want of a byte
+nothing-stops : readItem [] ≡ stops 4
+unfolding readItem readNumber _then_
+nothing-stops = refl
+
 next-got : (s : List ℕ) (i : Item) (left : List ℕ) → readItem s ≡ got i left → nextItem s ≡ item i left
 unfolding nextItem
-next-got [] i left e = absurd (omega (arith, empty-stops (got i left) e))
-next-got (b ∷ s) i left e = ap answerOf e
+next-got [] i left e = let z : _≡_ {A = ℕ} 0 1 = cc nothing-stops in absurd (omega arith)
+next-got (b ∷ s) i left e = ap standing e
 
 pub next-item : (i : Item) (left : List ℕ) → ItemFits i → nextItem (itemBytes i ++ left) ≡ item i left
 next-item i left fits = next-got (itemBytes i ++ left) i left (item-read i left fits)
 
+nothing-refused : (n : ℕ) → Refused [] n → n ≡ 4
+nothing-refused n r = let e = refused-stops [] n r in cc nothing-stops
+
 pub next-refused : (s : List ℕ) (n : ℕ) → Refused s n → nextItem s ≡ refuses n
 unfolding nextItem
 next-refused [] n (ends-inside is full there) = absurd (full refl)
-next-refused [] n (bad-number is there) = absurd (omega (arith, empty-stops (stops n) (refused-stops [] n (bad-number is there))))
-next-refused [] n (kind-above-6 is kind rest l u e) =
-    absurd (omega (arith, empty-stops (stops n) (refused-stops [] n (kind-above-6 is kind rest l u e))))
+next-refused [] n (bad-number is there) = absurd (omega (arith, nothing-refused n (bad-number is there)))
+next-refused [] n (kind-above-6 is kind rest l u e) = absurd (omega (arith, nothing-refused n (kind-above-6 is kind rest l u e)))
 next-refused [] n (count-outside is p count rest u v out e) =
-    absurd (omega (arith, empty-stops (stops n) (refused-stops [] n (count-outside is p count rest u v out e))))
-next-refused (b ∷ s) n r = ap answerOf (refused-stops (b ∷ s) n r)
+    absurd (omega (arith, nothing-refused n (count-outside is p count rest u v out e)))
+next-refused (b ∷ s) n r = ap standing (refused-stops (b ∷ s) n r)

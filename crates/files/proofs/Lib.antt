@@ -1,4 +1,4 @@
--- The theorems to read first: Numbers (its end), Accepted, AfterRefusal, Written and, for a program that reads by a cursor, Comes.
+-- The theorems to read first: Numbers (its end), Accepted, AfterRefusal, Written, Demand3 and, for a program that reads by a cursor, Comes.
 pub mod Cases
 pub mod Follows
 pub mod ReadAll

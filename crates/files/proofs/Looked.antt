@@ -1,18 +1,19 @@
 -- Where an event is refused with 5 or 6, some bytes were looked at, none of them in vain, and none after them. Rests on Items.
 use mathlib.Core.Path.{_≡_, refl, sym, ap, _∙_, subst}
 use mathlib.Core.Logic.{_≢_, _⊎_, inl, inr}
-use mathlib.Core.List.{List, [], _∷_, _++_, append-assoc}
-use Prim.Native.Nat.{ℕ, zero, suc, _/_, _≤_}
+use mathlib.Core.List.{List, [], _∷_, _++_, append-assoc, cons≢nil}
+use Prim.Native.Nat.{ℕ, zero, suc, _+_, _/_, _%_, _≤_}
 use native.Mathlib.Omega.{arith}
 use lib.ListN.{length}
 use lib.Seq.{append-snoc}
+use Rattle.table.proofs.Tests.{if-lt}
 use Rattle.schedule.specs.Numbers.{groups, numberBytes}
 use Rattle.schedule.specs.Reading.{end, refuses, nextItem}
 use Rattle.files.specs.Fits.{Bytes, Fits32}
-use Rattle.files.specs.Refusals.{Promise, Missing, Faulty, AtNumber, at-kind, at-process, at-last, Refused, ends-inside, kind-above-6, count-outside, bad-number}
+use Rattle.files.specs.Refusals.{Promise, Missing, Faulty, AtNumber, at-kind, at-process, at-last}
+use Rattle.files.specs.Refusals.{Refused, ends-inside, kind-above-6, count-outside, bad-number}
 use Rattle.files.specs.Looked.{Looked}
-use Rattle.files.proofs.Cases.{if-lt}
-use Rattle.files.proofs.Items.{joined, cons-not-nil, NextTells, next-tells, next-nothing, next-refused}
+use Rattle.files.proofs.Items.{joined, NextTells, next-tells, next-nothing, next-refused}
 
 -- ---- bytes cut
 
@@ -20,47 +21,37 @@ use Rattle.files.proofs.Items.{joined, cons-not-nil, NextTells, next-te
 abbrev Cut : (s front : List ℕ) → Type 0
 Cut s front = (b : ℕ) × (rest : List ℕ) × (s ≡ front ++ (b ∷ rest))
 
-abbrev tail : List ℕ → List ℕ
-tail [] = []
-tail (b ∷ s) = s
-
-abbrev headOr0 : List ℕ → ℕ
-headOr0 [] = 0
-headOr0 (b ∷ s) = b
-
 nothing-to-cut : (front : List ℕ) → Cut [] front → ⊥
-nothing-to-cut [] c = absurd (omega (arith, ap length (c .2)))
-nothing-to-cut (x ∷ front) c = absurd (omega (arith, ap length (c .2)))
+nothing-to-cut [] c = omega (arith, ap length (c .2))
+nothing-to-cut (x ∷ front) c = omega (arith, ap length (c .2))
+
+-- the first byte off both
+cut-rest : (x y : ℕ) (s front : List ℕ) → Cut (x ∷ s) (y ∷ front) → (x ≡ y) × Cut s front
+cut-rest x y s front (b, rest, e) = (cc, (b, rest, cc))
 
 -- a cut inside the first of two parts, or behind it inside the second
-data CutIn (s t front : List ℕ) : Type 0 where
-  first : Cut s front → CutIn s t front
-  second : (behind : List ℕ) → front ≡ s ++ behind → Cut t behind → CutIn s t front
-
-cut-in : (s t front : List ℕ) → Cut (s ++ t) front → CutIn s t front
-cut-in [] t front c = second front refl c
-cut-in (x ∷ s) t [] c = first (x, s, refl)
-cut-in (x ∷ s) t (y ∷ front) c = behind (cut-in s t front (c .0, c .1, ap tail (c .2)))
-  where
-    same : x ≡ y
-    same = ap headOr0 (c .2)
-
-    behind : CutIn s t front → CutIn (x ∷ s) t (y ∷ front)
-    behind (first d) = first (d .0, d .1, λ j. same j ∷ d .2 j)
-    behind (second rest e d) = second rest (λ j. sym same j ∷ e j) d
+cut-in : (P : List ℕ → Type 0) (s t front : List ℕ) → Cut (s ++ t) front
+    → (Cut s front → P front) → ((behind : List ℕ) → front ≡ s ++ behind → Cut t behind → P front) → P front
+cut-in P [] t front c in-first in-second = in-second front refl c
+cut-in P (x ∷ s) t [] c in-first in-second = in-first (x, s, refl)
+cut-in P (x ∷ s) t (y ∷ front) c in-first in-second =
+    let d = cut-rest x y (s ++ t) front c in
+    cut-in (λ l. P (y ∷ l)) s t front (d .1)
+    (λ k. in-first (k .0, k .1, λ j. d .0 j ∷ k .2 j)) (λ behind e k. in-second behind (λ j. sym (d .0) j ∷ e j) k)
 
 -- a number cut short promises another byte
 groups-cut : (more n : ℕ) (front : List ℕ) → Cut (groups more n) front → Promise front × (length front ≤ more)
 unfolding groups
 groups-cut more n [] c = (tt, omega arith)
-groups-cut zero n (x ∷ front) c = absurd (nothing-to-cut front (c .0, c .1, ap tail (c .2)))
+groups-cut zero n (x ∷ front) c = absurd (nothing-to-cut front (cut-rest n x [] front c .1))
 groups-cut (suc more) n (x ∷ front) c =
-    if-lt (λ (s : List ℕ). s ≡ x ∷ (front ++ (c .0 ∷ c .1)) → Promise (x ∷ front) × (length (x ∷ front) ≤ suc more)) n 128
-    (λ small e. absurd (nothing-to-cut front (c .0, c .1, ap tail e)))
-    (λ large e.
-    let again = groups-cut more (n / 128) front (c .0, c .1, ap tail e) in
-    ((omega (arith, ap headOr0 e), again .0), omega (arith, again .1)))
-    (c .2)
+    if-lt (λ (s : List ℕ). Cut s (x ∷ front) → Promise (x ∷ front) × (length (x ∷ front) ≤ suc more)) n 128
+    (λ small c. absurd (nothing-to-cut front (cut-rest n x [] front c .1)))
+    (λ large c.
+    let d = cut-rest (128 + n % 128) x (groups more (n / 128)) front c in
+    let again = groups-cut more (n / 128) front (d .1) in
+    ((omega (arith, d .0), again .0), omega (arith, again .1)))
+    c
 
 number-cut : (n : ℕ) (front : List ℕ) → Cut (numberBytes n) front → Missing front
 unfolding numberBytes
@@ -72,10 +63,11 @@ number-cut n front c =
 fault-cut : (before front : List ℕ) (byte : ℕ) → Promise before → Cut (before ++ (byte ∷ [])) front
     → Promise front × (length front ≤ length before)
 fault-cut before [] byte promise c = (tt, omega arith)
-fault-cut [] (x ∷ front) byte promise c = absurd (nothing-to-cut front (c .0, c .1, ap tail (c .2)))
+fault-cut [] (x ∷ front) byte promise c = absurd (nothing-to-cut front (cut-rest byte x [] front c .1))
 fault-cut (b ∷ before) (x ∷ front) byte promise c =
-    let again = fault-cut before front byte (promise .1) (c .0, c .1, ap tail (c .2)) in
-    ((omega (arith, promise .0, ap headOr0 (c .2)), again .0), omega (arith, again .1))
+    let d = cut-rest b x (before ++ (byte ∷ [])) front c in
+    let again = fault-cut before front byte (promise .1) (d .1) in
+    ((omega (arith, promise .0, d .0), again .0), omega (arith, again .1))
 
 -- ---- an event cut
 
@@ -85,27 +77,19 @@ Needed seen = (front : List ℕ) → Cut seen front → AtNumber Missing front
 
 -- after its kind, and after its kind and its process
 kind-first : (kind : ℕ) (seen : List ℕ) → kind ≤ 6 → ((front : List ℕ) → Cut seen front → Missing front) → Needed (numberBytes kind ++ seen)
-kind-first kind seen l needed front c = by-part (cut-in (numberBytes kind) seen front c)
-  where
-    by-part : CutIn (numberBytes kind) seen front → AtNumber Missing front
-    by-part (first d) = at-kind (number-cut kind front d)
-    by-part (second behind e d) = at-process kind behind l e (needed behind d)
+kind-first kind seen l needed front c =
+    cut-in (AtNumber Missing) (numberBytes kind) seen front c
+    (λ d. at-kind (number-cut kind front d)) (λ behind e d. at-process kind behind l e (needed behind d))
 
 process-next : (kind p : ℕ) (seen : List ℕ) → (kind ≤ 2) ⊎ (kind ≡ 6) → Fits32 p
     → ((front : List ℕ) → Cut seen front → Missing front) → Needed (numberBytes kind ++ (numberBytes p ++ seen))
-process-next kind p seen three u needed front c = by-part (cut-in (numberBytes kind) (numberBytes p ++ seen) front c)
-  where
-    small : kind ≤ 6
-    small = elim three [ inl x ↦ omega arith | inr x ↦ omega arith ]
-
-    by-later : (behind : List ℕ) → front ≡ numberBytes kind ++ behind → CutIn (numberBytes p) seen behind → AtNumber Missing front
-    by-later behind e (first d) = at-process kind behind small e (number-cut p behind d)
-    by-later behind e (second later f d) =
-        at-last kind p later three u (e ∙ ap (λ (r : List ℕ). numberBytes kind ++ r) f) (needed later d)
-
-    by-part : CutIn (numberBytes kind) (numberBytes p ++ seen) front → AtNumber Missing front
-    by-part (first d) = at-kind (number-cut kind front d)
-    by-part (second behind e d) = by-later behind e (cut-in (numberBytes p) seen behind d)
+process-next kind p seen three u needed front c =
+    let small : kind ≤ 6 = elim three [ inl x ↦ omega arith | inr x ↦ omega arith ] in
+    cut-in (AtNumber Missing) (numberBytes kind) (numberBytes p ++ seen) front c
+    (λ d. at-kind (number-cut kind front d))
+    (λ behind e d. cut-in (λ _. AtNumber Missing front) (numberBytes p) seen behind d
+    (λ d. at-process kind behind small e (number-cut p behind d))
+    (λ later f d. at-last kind p later three u (e ∙ ap (λ (r : List ℕ). numberBytes kind ++ r) f) (needed later d)))
 
 -- ---- the bytes looked at
 
@@ -121,7 +105,12 @@ looked-of left seen unseen n e enough needed =
   where
     ended : (front : List ℕ) → AtNumber Missing front → (nextItem front ≡ end) ⊎ (nextItem front ≡ refuses 4)
     ended [] there = inl next-nothing
-    ended (b ∷ front) there = inr (next-refused (b ∷ front) 4 (ends-inside refl cons-not-nil there))
+    ended (b ∷ front) there = inr (next-refused (b ∷ front) 4 (ends-inside refl cons≢nil there))
+
+-- the same byte is at fault whatever follows it
+pub same-fault : {s : List ℕ} (f : Faulty s) (t rest : List ℕ) → t ≡ f .groups ++ (f .byte ∷ rest) → Faulty t
+same-fault f t rest e =
+    record { groups = f .groups; byte = f .byte; rest = rest; stands = e; promise = f .promise; fault = f .fault }
 
 -- of a number at fault, up to and with the byte at fault
 record FaultSeen (s : List ℕ) : Type 0 where
@@ -137,14 +126,7 @@ fault-of s f =
       seen = f .groups ++ (f .byte ∷ []);
       unseen = f .rest;
       whole = f .stands ∙ sym (append-snoc (f .groups) (f .byte) (f .rest));
-      enough = λ t. record {
-        groups = f .groups;
-        byte = f .byte;
-        rest = t;
-        stands = append-snoc (f .groups) (f .byte) t;
-        promise = f .promise;
-        fault = f .fault;
-      };
+      enough = λ t. same-fault f _ t (append-snoc (f .groups) (f .byte) t);
       needed = λ front c.
           let x = fault-cut (f .groups) front (f .byte) (f .promise) c in
           record { promise = x .0; few = omega (arith, x .1, few) };

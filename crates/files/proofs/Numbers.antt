@@ -5,12 +5,15 @@ use mathlib.Core.Bool.{cond}
 use mathlib.Core.List.{List, [], _∷_, _++_}
 use Prim.Native.Nat.{ℕ, zero, suc, _+_, _-_, _*_, _/_, _%_, _≤_, _<_}
 use native.Mathlib.Omega.{arith}
-use lib.Dec.{ltb, eqb, ltb→lt, nltb→le, eqb→eq}
+use borrow.Author.Tests.{lt-ltb, le-ltb, ne-eqb, ltb-true, ltb-false, eqb-true, eqb-false}
+use lib.Dec.{ltb, eqb}
 use lib.ListN.{length}
+use Rattle.table.proofs.Tests.{if-lt, if-eq}
 use Rattle.schedule.specs.Numbers.{groups, numberBytes, Read, got, stops, _then_, lowest, moreGroups, readNumber}
+use Rattle.schedule.proofs.Follows.{Tells, after}
 use Rattle.files.specs.Fits.{Bytes, Fits32}
 use Rattle.files.specs.Refusals.{Promise, Missing, Faulty}
-use Rattle.files.proofs.Cases.{Tells, after, if-lt, if-eq, if-or, not-equal}
+use Rattle.files.proofs.Cases.{if-or}
 
 -- the numbers that so many groups and one can hold, the last of them at most 15
 abbrev bound : ℕ → ℕ
@@ -28,22 +31,15 @@ group-read : (n : ℕ) (rest : List ℕ) (x r : Read ℕ) → r ≡ got (n / 128
     → cond (ltb (128 + n % 128) 128) x (r then lowest (128 + n % 128 - 128)) ≡ got n rest
 unfolding _then_
 group-read n rest x r e =
-    let low = 128 + n % 128 in
-    let value : (low - 128) + 128 * (n / 128) ≡ n = omega arith in
-    if-lt (λ (y : Read ℕ). y ≡ got n rest) low 128
-    (λ small. absurd (omega arith))
-    (λ _. ap (λ (y : Read ℕ). y then lowest (low - 128)) e ∙ ap (λ (k : ℕ). got k rest) value)
+    let value : 128 + n % 128 - 128 + 128 * (n / 128) ≡ n = omega arith in
+    rw (le-ltb (128 + n % 128) 128 (omega arith), e, value)
 
 more-read : (before n : ℕ) (rest : List ℕ) → 1 ≤ n → n < bound before → moreGroups before (groups before n ++ rest) ≡ got n rest
 unfolding groups moreGroups
-more-read zero n rest l u =
-    if-or (λ (r : Read ℕ). r ≡ got n rest) (ltb 15 n) (eqb n 0)
-    (λ t. absurd (omega (arith, ltb→lt 15 n t))) (λ t. absurd (omega (arith, eqb→eq n 0 t))) (λ s t. refl)
+more-read zero n rest l u = rw (le-ltb 15 n (omega arith), ne-eqb n 0 (λ z. omega arith))
 more-read (suc before) n rest l u =
     if-lt (λ (s : List ℕ). moreGroups (suc before) (s ++ rest) ≡ got n rest) n 128
-    (λ small. if-lt (λ (r : Read ℕ). r ≡ got n rest) n 128
-    (λ _. if-eq (λ (r : Read ℕ). r ≡ got n rest) n 0 (λ z. absurd (omega arith)) (λ z. refl))
-    (λ large. absurd (omega arith)))
+    (λ small. rw (lt-ltb n 128 small, ne-eqb n 0 (λ z. omega arith)))
     (λ large. group-read n rest _ _ (more-read before (n / 128) rest (omega arith) (omega arith)))
 
 -- a number written is read, with what stands after it left
@@ -51,7 +47,7 @@ pub number-read : (n : ℕ) (rest : List ℕ) → Fits32 n → readNumber (numbe
 unfolding numberBytes groups readNumber
 number-read n rest u =
     if-lt (λ (s : List ℕ). readNumber (s ++ rest) ≡ got n rest) n 128
-    (λ small. if-lt (λ (r : Read ℕ). r ≡ got n rest) n 128 (λ _. refl) (λ large. absurd (omega arith)))
+    (λ small. rw (lt-ltb n 128 small))
     (λ large. group-read n rest _ _ (more-read 3 (n / 128) rest (omega arith) (omega arith)))
 
 -- ---- what is read was written, and what stands where none can be read
@@ -70,17 +66,14 @@ group-before : (before b n : ℕ) (s left : List ℕ) → 128 ≤ b → b < 256 
 unfolding groups
 group-before before b n s left l u pos e =
     let m : ℕ = b - 128 + 128 * n in
-    if-lt (λ (r : List ℕ). b ∷ s ≡ r ++ left) m 128
-    (λ small. absurd (omega arith))
-    (λ large.
     let low : b ≡ 128 + m % 128 = omega arith in
     let high : n ≡ m / 128 = omega arith in
-    ap (λ (r : List ℕ). b ∷ r) e ∙ (λ j. low j ∷ (groups before (high j) ++ left)))
+    rw (le-ltb m 128 (omega arith)) (ap (λ (r : List ℕ). b ∷ r) e ∙ (λ j. low j ∷ (groups before (high j) ++ left)))
 
 one-group : (before b : ℕ) (s : List ℕ) → b < 128 → b ∷ s ≡ groups before b ++ s
 unfolding groups
 one-group zero b s u = refl
-one-group (suc before) b s u = if-lt (λ (r : List ℕ). b ∷ s ≡ r ++ s) b 128 (λ _. refl) (λ large. absurd (omega arith))
+one-group (suc before) b s u = rw (lt-ltb b 128 u)
 
 -- where so many groups and one may still come: the bytes end, or a group among them is at fault
 abbrev MoreMissing : ℕ → List ℕ → Type 0
@@ -98,13 +91,9 @@ fault-earlier : (before count byte : ℕ) → Fault (suc before) (suc count) byt
 fault-earlier before count byte (inl x) = inl (omega (arith, x .0), x .1)
 fault-earlier before count byte (inr x) = inr (omega (arith, x .0), x .1)
 
-record MoreFaulty (before : ℕ) (s : List ℕ) : Type 0 where
-  front : List ℕ
-  byte : ℕ
-  rest : List ℕ
-  stands : s ≡ front ++ (byte ∷ rest)
-  promise : Promise front
-  fault : Fault before (length front) byte
+abbrev MoreFaulty : ℕ → List ℕ → Type 0
+MoreFaulty before s =
+    (front : List ℕ) × (byte : ℕ) × (rest : List ℕ) × (s ≡ front ++ (byte ∷ rest)) × Promise front × Fault before (length front) byte
 
 abbrev MoreTells : ℕ → List ℕ → Read ℕ → Type 0
 MoreTells before s =
@@ -112,28 +101,21 @@ MoreTells before s =
     (λ n. ((n ≡ 4) × MoreMissing before s) ⊎ ((n ≡ 6) × MoreFaulty before s))
 
 faulty-now : (before b : ℕ) (s : List ℕ) → Fault before 0 b → MoreFaulty before (b ∷ s)
-faulty-now before b s fault = record { front = []; byte = b; rest = s; stands = refl; promise = tt; fault = fault }
+faulty-now before b s fault = ([], b, s, refl, tt, fault)
 
 faulty-later : (before b : ℕ) (s : List ℕ) → 128 ≤ b → MoreFaulty before s → MoreFaulty (suc before) (b ∷ s)
-faulty-later before b s l f =
-    record {
-      front = b ∷ f .front;
-      byte = f .byte;
-      rest = f .rest;
-      stands = ap (λ (r : List ℕ). b ∷ r) (f .stands);
-      promise = (l, f .promise);
-      fault = fault-later before (length (f .front)) (f .byte) (f .fault);
-    }
+faulty-later before b s l (front, byte, rest, e, promise, fault) =
+    (b ∷ front, byte, rest, ap (λ (r : List ℕ). b ∷ r) e, (l, promise), fault-later before (length front) byte fault)
 
 faulty-number : (b : ℕ) (s : List ℕ) → 128 ≤ b → MoreFaulty 3 s → Faulty (b ∷ s)
-faulty-number b s l f =
+faulty-number b s l (front, byte, rest, e, promise, fault) =
     record {
-      groups = b ∷ f .front;
-      byte = f .byte;
-      rest = f .rest;
-      stands = ap (λ (r : List ℕ). b ∷ r) (f .stands);
-      promise = (l, f .promise);
-      fault = elim (f .fault) [ inl x ↦ inl (ap suc (x .0), x .1) | inr x ↦ inr (omega arith, omega (arith, x .0), x .1) ];
+      groups = b ∷ front;
+      byte = byte;
+      rest = rest;
+      stands = ap (λ (r : List ℕ). b ∷ r) e;
+      promise = (l, promise);
+      fault = elim (fault-later 3 (length front) byte fault) [ inl x ↦ inl x | inr x ↦ inr (omega arith, x .0, x .1) ];
     }
 
 more-tells : (before : ℕ) (s : List ℕ) → Bytes s → MoreTells before s (moreGroups before s)
@@ -142,9 +124,9 @@ more-tells zero [] bytes = inl (refl, (tt, omega arith))
 more-tells (suc before) [] bytes = inl (refl, (tt, omega arith))
 more-tells zero (b ∷ s) bytes =
     if-or (MoreTells zero (b ∷ s)) (ltb 15 b) (eqb b 0)
-    (λ t. inr (refl, faulty-now zero b s (inl (refl, ltb→lt 15 b t))))
-    (λ t. inr (refl, faulty-now zero b s (inr (omega arith, eqb→eq b 0 t))))
-    (λ t z. (one-group zero b s (omega (arith, nltb→le 15 b t)), omega (arith, not-equal b 0 z), omega (arith, nltb→le 15 b t)))
+    (λ t. inr (refl, faulty-now zero b s (inl (refl, ltb-true 15 b t))))
+    (λ t. inr (refl, faulty-now zero b s (inr (omega arith, eqb-true b 0 t))))
+    (λ t z. (one-group zero b s (omega (arith, ltb-false 15 b t)), omega (arith, eqb-false b 0 z), omega (arith, ltb-false 15 b t)))
 more-tells (suc before) (b ∷ s) bytes =
     if-lt (MoreTells (suc before) (b ∷ s)) b 128
     (λ small. if-eq (MoreTells (suc before) (b ∷ s)) b 0
@@ -180,9 +162,7 @@ number-tells (b ∷ s) bytes =
 -- a group that promises another, and then groups that can't be read
 group-stops : (b k : ℕ) (x r : Read ℕ) → 128 ≤ b → r ≡ stops k → cond (ltb b 128) x (r then lowest (b - 128)) ≡ stops k
 unfolding _then_
-group-stops b k x r l e =
-    if-lt (λ (y : Read ℕ). y ≡ stops k) b 128
-    (λ small. absurd (omega arith)) (λ _. ap (λ (y : Read ℕ). y then lowest (b - 128)) e)
+group-stops b k x r l e = rw (le-ltb b 128 l, e)
 
 more-missing : (before : ℕ) (s : List ℕ) → Promise s → length s ≤ before → moreGroups before s ≡ stops 4
 unfolding moreGroups
@@ -199,16 +179,12 @@ missing-stops (b ∷ s) m = group-stops b 4 _ _ (m .promise .0) (more-missing 3 
 more-faulty : (before : ℕ) (front : List ℕ) (byte : ℕ) (rest : List ℕ) → Promise front → Fault before (length front) byte
     → moreGroups before (front ++ (byte ∷ rest)) ≡ stops 6
 unfolding moreGroups
-more-faulty zero [] byte rest promise fault =
-    if-or (λ (r : Read ℕ). r ≡ stops 6) (ltb 15 byte) (eqb byte 0) (λ t. refl) (λ t. refl)
-    (λ t z. elim fault [ inl x ↦ absurd (omega (arith, x .1, nltb→le 15 byte t)) | inr x ↦ absurd (not-equal byte 0 z (x .1)) ])
-more-faulty (suc before) [] byte rest promise fault =
-    let zero-byte : byte ≡ 0 = elim fault [ inl x ↦ absurd (omega (arith, x .0)) | inr x ↦ x .1 ] in
-    if-lt (λ (r : Read ℕ). r ≡ stops 6) byte 128
-    (λ small. if-eq (λ (r : Read ℕ). r ≡ stops 6) byte 0 (λ _. refl) (λ z. absurd (z zero-byte)))
-    (λ large. absurd (omega arith))
-more-faulty zero (b ∷ front) byte rest promise fault =
-    elim fault [ inl x ↦ absurd (omega (arith, x .0)) | inr x ↦ absurd (omega (arith, x .0)) ]
+more-faulty zero [] byte rest promise (inl x) = rw (lt-ltb 15 byte (x .1))
+more-faulty zero [] byte rest promise (inr x) = rw (x .1)
+more-faulty (suc before) [] byte rest promise (inl x) = absurd (omega (arith, x .0))
+more-faulty (suc before) [] byte rest promise (inr x) = rw (x .1)
+more-faulty zero (b ∷ front) byte rest promise (inl x) = absurd (omega (arith, x .0))
+more-faulty zero (b ∷ front) byte rest promise (inr x) = absurd (omega (arith, x .0))
 more-faulty (suc before) (b ∷ front) byte rest promise fault =
     group-stops b 6 _ _ (promise .0) (more-faulty before front byte rest (promise .1) (fault-earlier before (length front) byte fault))
 

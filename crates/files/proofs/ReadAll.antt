@@ -6,8 +6,9 @@ use native.Mathlib.Omega.{arith}
 use lib.ListN.{length}
 use Rattle.schedule.specs.Encoding.{Item}
 use Rattle.schedule.specs.Reading.{Reading, reading, before, readItems, NextItem, end, item, refuses, nextItem}
+use Rattle.schedule.proofs.Follows.{Follows, follows-shorter}
 use Rattle.schedule.specs.Reading.{readAll}
-use Rattle.files.proofs.Follows.{follows-shorter, Next, next}
+use Rattle.files.proofs.Follows.{CountFits, Next, next}
 
 -- by what stands next, where what is left after an item is read by `again`
 abbrev readOn : (again : List ℕ → Reading) → List ℕ → NextItem → Reading
@@ -49,3 +50,24 @@ read-item s i left e = read-next s ∙ ap (readOn readAll s) e
 
 pub read-refused : (s : List ℕ) (n : ℕ) → nextItem s ≡ refuses n → readAll s ≡ reading [] s n
 read-refused s n e = read-next s ∙ ap (readOn readAll s) e
+
+-- so what is read has a property that the end and a refusal have, and that an item keeps
+module _ (P : List ℕ → Reading → Type 0)
+    (at-end : (s : List ℕ) → nextItem s ≡ end → P s (reading [] s 0))
+    (at-item : (s : List ℕ) (i : Item) (left : List ℕ) → nextItem s ≡ item i left → Follows left s × CountFits i → P left (readAll left)
+    → P s (before i (readAll left)))
+    (at-refusal : (s : List ℕ) (n : ℕ) → nextItem s ≡ refuses n → P s (reading [] s n)) where
+  in-turns : (turns : ℕ) (s : List ℕ) → length s < turns → P s (readAll s)
+  in-turns zero s l = absurd (omega arith)
+  in-turns (suc turns) s l = by-next (λ left. in-turns turns left) (nextItem s) refl (next s)
+    where
+      by-next : ((left : List ℕ) → length left < turns → P left (readAll left))
+          → (x : NextItem) → nextItem s ≡ x → Next s x → P s (readAll s)
+      by-next again end e t = rw (read-end s e) (at-end s e)
+      by-next again (item i left) e t =
+          let shorter : length left < length s = follows-shorter (t .0) in
+          rw (read-item s i left e) (at-item s i left e t (again left (omega arith)))
+      by-next again (refuses n) e t = rw (read-refused s n e) (at-refusal s n e)
+
+  pub item-by-item : (s : List ℕ) → P s (readAll s)
+  item-by-item s = in-turns (suc (length s)) s (omega arith)

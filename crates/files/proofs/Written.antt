@@ -4,13 +4,15 @@ use mathlib.Core.Logic.{_↔_}
 use mathlib.Core.Bool.{cond}
 use mathlib.Core.List.{List, [], _∷_, _++_, append-assoc}
 use Prim.Native.Nat.{ℕ, _+_, _≤_, min}
-use native.Mathlib.Nat.{add-zero, zero-add}
+use native.Mathlib.Nat.{add-assoc, add-zero, zero-add}
 use native.Mathlib.Omega.{arith}
+use borrow.Author.Tests.{le-leb}
 use lib.Dec.{eqb}
-use lib.ListN.{length, take, drop, length-append, length-drop, take-append-drop}
+use lib.ListN.{length, take, drop, length-append, length-take, length-drop, take-append-drop}
 use lib.Seq.{take-at, drop-at, drop-drop, length-take-le, take-append-seam}
 use Rattle.record.specs.declared.Event.{Event}
 use Rattle.table.specs.Events.{sizesFit}
+use Rattle.table.proofs.Tests.{if, if-le}
 use Rattle.schedule.specs.declared.Header.{Header}
 use Rattle.schedule.specs.Encoding.{Item, single, burst, headerBytes, eventBytes, itemBytes, itemsBytes, fileBytes, eventsOf}
 use Rattle.schedule.specs.Reading.{reading, file, readFile}
@@ -18,7 +20,6 @@ use Rattle.schedule.specs.Writing.{Wrote, wrote, room, laid, put, writtenHeader
 use Rattle.files.specs.Fits.{Each, Bytes, HeaderFits, EventFits, ItemFits}
 use Rattle.files.specs.Stands.{Encodes}
 use Rattle.files.specs.Written.{writtenEvents, writtenFile, writtenBytes, singles, NoBurst}
-use Rattle.files.proofs.Cases.{if-le, if-so}
 use Rattle.files.proofs.Accepted.{accepted, encoding-read}
 
 -- ---- bytes laid
@@ -30,21 +31,10 @@ limit output = min (length output) 65536
 put-fits : (bytes output : List ℕ) (at : ℕ) → at + length bytes ≤ limit output
     → put bytes output at ≡ wrote (laid bytes output at) (at + length bytes) 0
 unfolding put
-put-fits bytes output at l =
-    if-le (λ (w : Wrote). w ≡ wrote (laid bytes output at) (at + length bytes) 0) (length bytes) (room output at)
-    (λ _. refl) (λ short. absurd (omega arith))
+put-fits bytes output at l = rw (le-leb (length bytes) (room output at) (omega arith))
 
 length-laid : (bytes output : List ℕ) (at : ℕ) → at + length bytes ≤ length output → length (laid bytes output at) ≡ length output
-length-laid bytes output at l =
-    let rest = drop (length bytes) (drop at output) in
-    omega (
-      arith,
-      length-append (take at output) (bytes ++ rest),
-      length-append bytes rest,
-      length-take-le at output (omega arith),
-      length-drop (length bytes) (drop at output),
-      length-drop at output,
-    )
+length-laid bytes output at l = simp (length-append, length-take, length-drop) (omega arith)
 
 -- bytes laid after bytes laid
 laid-after : (b c output : List ℕ) (at : ℕ) → at ≤ length output → laid c (laid b output at) (at + length b) ≡ laid (b ++ c) output at
@@ -53,12 +43,8 @@ laid-after b c output at l =
     let rest = drop (length b) (drop at output) in
     let n = at + length b in
     let long : length (head ++ b) ≡ n = omega (arith, length-append head b, length-take-le at output l) in
-    ap (λ (r : List ℕ). laid c r n) (sym (append-assoc head b rest))
-    ∙ (λ j. take-at (head ++ b) rest n long j ++ (c ++ drop (length c) (drop-at (head ++ b) rest n long j)))
-    ∙ append-assoc head b (c ++ drop (length c) rest)
-    ∙ ap (λ (r : List ℕ). head ++ r) (sym (append-assoc b c (drop (length c) rest)))
-    ∙ ap (λ (r : List ℕ). head ++ ((b ++ c) ++ r))
-    (drop-drop (length c) (length b) (drop at output) ∙ ap (λ (k : ℕ). drop k (drop at output)) (sym (length-append b c)))
+    rw (← append-assoc head b rest, take-at (head ++ b) rest n long, drop-at (head ++ b) rest n long)
+    (simp (append-assoc, length-append, drop-drop, add-assoc))
 
 -- ---- events, then a file
 
@@ -123,7 +109,7 @@ file-room : (h : Header) (events : List Event) (output : List ℕ) → writtenFi
     → HeaderFits h × (length (fileBytes h (singles events)) ≤ min (length output) 65536)
 unfolding writtenFile writtenHeader fileBytes
 file-room h events output =
-    if-so (λ (w : Wrote). andThen events w .refusal ≡ 0 → HeaderFits h × (length (headerBytes h ++ itemsBytes (singles events)) ≤ limit output))
+    if (λ (w : Wrote). andThen events w .refusal ≡ 0 → HeaderFits h × (length (headerBytes h ++ itemsBytes (singles events)) ≤ limit output))
     (sizesFit (h .nodes) (h .processes))
     (λ fits done.
     (fits, omega (arith, then-room (headerBytes h) (itemsBytes (singles events)) output 0 events (events-room events) (omega arith) done)))

@@ -1,14 +1,15 @@
 -- What each turn of `read_number` does to what is left to read, and that the gathered groups make the number. Rests on Numbers and Gathering.
-use Prim.Native.Nat.{ℕ, zero, suc, _+_, _-_, _*_, _<_, _≤_}
-use mathlib.Core.Bool.{Bool, true, false, cond, _&&_, _||_}
+use Prim.Native.Nat.{ℕ, zero, suc, _+_, _-_, _<_, _≤_}
+use mathlib.Core.Bool.{Bool, true, false, cond, _&&_, _||_, and-false}
 use mathlib.Core.List.{List, [], _∷_, _++_}
 use mathlib.Core.Path.{_≡_, refl, ap, sym, _∙_}
 use native.Mathlib.Omega.{arith}
 use native.Mathlib.Numerals.{add-one}
-use borrow.Author.Tests.{lt-ltb, le-ltb, le-leb, lt-leb, ltb-false}
+use borrow.Author.Tests.{lt-ltb, le-ltb, le-leb, lt-leb, ltb-true, ltb-false}
 use lib.Dec.{leb, ltb, eqb}
 use lib.ListN.{length, take, drop, getD, set, length-set, length-drop, drop-of-length-le}
 use lib.Seq.{drop-cons, take-suc-set, set-split, getD-set-same, getD-set-other, getD-drop}
+use Rattle.schedule.specs.declared.NumberRead.{NumberRead}
 use Rattle.schedule.specs.declared.NumberRead.the-variants.{Got, Refused}
 use Rattle.schedule.specs.Numbers.{Read, got, stops, _then_, lowest, moreGroups, readNumber}
 use Rattle.schedule.specs.Inside.Gathering.{Groups, summed, summedWith, judged}
@@ -17,9 +18,9 @@ use Rattle.schedule.specs.Cursors.{placeIn, numberRead, numberAt}
 -- ---- what is left to read
 
 -- what the bytes read as after so many groups
-unfoldable pub after : ℕ → List ℕ → Read ℕ
-after zero s = readNumber s
-after (suc n) s = cond (leb n 3) (moreGroups (3 - n) s) (stops 6)
+unfoldable pub afterGroups : ℕ → List ℕ → Read ℕ
+afterGroups zero s = readNumber s
+afterGroups (suc n) s = cond (leb n 3) (moreGroups (3 - n) s) (stops 6)
 
 -- a fifth byte of 128 or more is above 15
 fifth : {A : Type 0} (small large none : Bool) (x y : A) → (small ≡ false → large ≡ true)
@@ -35,9 +36,10 @@ above-15 b e = lt-ltb 15 b (omega (arith, ltb-false b 128 e))
 
 -- a byte more
 one-more : (i b : ℕ) (s : List ℕ) → i < 5
-    → after i (b ∷ s)
-    ≡ cond (ltb b 128) (cond (ltb 0 i && eqb b 0) (stops 6) (cond (ltb 3 i && ltb 15 b) (stops 6) (got b s))) (after (suc i) s then lowest (b - 128))
-unfolding after readNumber moreGroups _then_
+    → afterGroups i (b ∷ s)
+    ≡ cond (ltb b 128) (cond (ltb 0 i && eqb b 0) (stops 6) (cond (ltb 3 i && ltb 15 b) (stops 6) (got b s)))
+    (afterGroups (suc i) s then lowest (b - 128))
+unfolding afterGroups readNumber moreGroups _then_
 one-more zero b s h = refl
 one-more (suc zero) b s h = refl
 one-more (suc (suc zero)) b s h = refl
@@ -46,13 +48,13 @@ one-more (suc (suc (suc (suc zero)))) b s h =
     fifth (ltb b 128) (ltb 15 b) (eqb b 0) (stops 6) (got b s) (above-15 b)
 one-more (suc (suc (suc (suc (suc i))))) b s h = absurd (omega arith)
 
-none-left : (i : ℕ) → i < 5 → after i [] ≡ stops 4
-unfolding after readNumber moreGroups
+none-left : (i : ℕ) → i < 5 → afterGroups i [] ≡ stops 4
+unfolding afterGroups readNumber moreGroups
 none-left zero h = refl
 none-left (suc i) h = rw (le-leb i 3 (omega arith))
 
-too-many : (i : ℕ) (s : List ℕ) → 5 ≤ i → after i s ≡ stops 6
-unfolding after
+too-many : (i : ℕ) (s : List ℕ) → 5 ≤ i → afterGroups i s ≡ stops 6
+unfolding afterGroups
 too-many zero s h = absurd (omega arith)
 too-many (suc i) s h = rw (lt-leb i 3 (omega arith))
 
@@ -64,17 +66,17 @@ behind (group ∷ groups) r = behind groups r then lowest group
 
 behind-more : (groups : List ℕ) (group : ℕ) (r : Read ℕ) → behind (groups ++ (group ∷ [])) r ≡ behind groups (r then lowest group)
 behind-more [] group r = refl
-behind-more (g ∷ groups) group r = ap (λ (r : Read ℕ). r then lowest g) (behind-more groups group r)
+behind-more (g ∷ groups) group r = rw (behind-more groups group r)
 
 behind-stops : (groups : List ℕ) (n : ℕ) → behind groups (stops n) ≡ stops n
 unfolding _then_
 behind-stops [] n = refl
-behind-stops (g ∷ groups) n = ap (λ (r : Read ℕ). r then lowest g) (behind-stops groups n)
+behind-stops (g ∷ groups) n = rw (behind-stops groups n)
 
 behind-got : (groups : List ℕ) (n : ℕ) (s : List ℕ) → behind groups (got n s) ≡ got (summed (groups ++ (n ∷ []))) s
 unfolding _then_
 behind-got [] n s = ap (λ (m : ℕ). got m s) (omega arith)
-behind-got (g ∷ groups) n s = ap (λ (r : Read ℕ). r then lowest g) (behind-got groups n s)
+behind-got (g ∷ groups) n s = rw (behind-got groups n s)
 
 -- ---- the scratch array
 
@@ -89,7 +91,7 @@ summed-zeros (g ∷ groups) h = omega (arith, h 0, summed-zeros groups (λ k. h 
 summed-before-zeros : (groups zeros : List ℕ) (group : ℕ) → summed zeros ≡ 0
     → summed (groups ++ (group ∷ zeros)) ≡ summed (groups ++ (group ∷ []))
 summed-before-zeros [] zeros group h = omega arith
-summed-before-zeros (g ∷ groups) zeros group h = ap (λ (n : ℕ). g + 128 * n) (summed-before-zeros groups zeros group h)
+summed-before-zeros (g ∷ groups) zeros group h = rw (summed-before-zeros groups zeros group h)
 
 -- with the last group put, the array makes the groups' number
 summed-last : (groups : List ℕ) (count b : ℕ) → count < length groups → ZerosFrom count groups
@@ -102,16 +104,15 @@ summed-last groups count b h zeros =
 -- and the fifth group is above 15 only where it is the last
 fifth-group : (groups : List ℕ) (count b : ℕ) → count < 5 → length groups ≡ 5 → ZerosFrom count groups
     → ltb 15 (getD (set groups count b) 4 0) ≡ (ltb 3 count && ltb 15 b)
-fifth-group groups zero b few five zeros =
-    rw (getD-set-other groups 0 4 b 0 (λ e. omega arith), zeros 4 (omega arith))
-fifth-group groups (suc zero) b few five zeros =
-    rw (getD-set-other groups 1 4 b 0 (λ e. omega arith), zeros 4 (omega arith))
-fifth-group groups (suc (suc zero)) b few five zeros =
-    rw (getD-set-other groups 2 4 b 0 (λ e. omega arith), zeros 4 (omega arith))
-fifth-group groups (suc (suc (suc zero))) b few five zeros =
-    rw (getD-set-other groups 3 4 b 0 (λ e. omega arith), zeros 4 (omega arith))
-fifth-group groups (suc (suc (suc (suc zero)))) b few five zeros = rw (getD-set-same groups 4 b 0 (omega arith))
-fifth-group groups (suc (suc (suc (suc (suc i))))) b few five zeros = absurd (omega arith)
+fifth-group groups count b few five zeros = by-place (ltb 3 count) refl
+  where
+    by-place : (last : Bool) → ltb 3 count ≡ last → ltb 15 (getD (set groups count b) 4 0) ≡ (last && ltb 15 b)
+    by-place true e =
+        let fifth : count ≡ 4 = omega (arith, ltb-true 3 count e) in
+        rw (fifth, getD-set-same groups 4 b 0 (omega arith))
+    by-place false e =
+        let before : count ≤ 3 = ltb-false 3 count e in
+        rw (getD-set-other groups count 4 b 0 (λ e. omega arith), zeros 4 (omega arith))
 
 pub summed-five : (groups : List ℕ) → length groups ≡ 5 → summed groups ≡ summedWith groups (getD groups 4 0)
 summed-five (a ∷ b ∷ c ∷ d ∷ e ∷ []) h = omega arith
@@ -133,11 +134,7 @@ module _ (groups : List ℕ) (last : ℕ) where
   only-group h = rw (le-ltb 0 last h)
 
   pub last-not-zero : eqb (getD groups last 0) 0 ≡ false → NoZeroLast groups last
-  last-not-zero e = rw e (neither (ltb 0 last))
-    where
-      neither : (b : Bool) → (b && false) ≡ false
-      neither true = refl
-      neither false = refl
+  last-not-zero e = rw e (and-false (ltb 0 last))
 
 module _ (groups : List ℕ) (last next : ℕ) where
   pub zero-last : 0 < last → eqb (getD groups last 0) 0 ≡ true → Refused 6 ≡ judged groups last next
@@ -154,10 +151,6 @@ module _ (groups : List ℕ) (last next : ℕ) where
 
 -- ---- the turns of the loop
 
-pub number-is : (file : List ℕ) (at : ℕ) (r : Read ℕ) → r ≡ readNumber (drop at file) → numberRead (placeIn file) r ≡ numberAt file at
-unfolding numberAt
-number-is file at r e = ap (numberRead (placeIn file)) e
-
 read-last : (file groups s : List ℕ) (n : ℕ) (none large : Bool)
     → numberRead (placeIn file) (behind groups (cond none (stops 6) (cond large (stops 6) (got n s))))
     ≡ numberRead (λ left. placeIn file s) (cond none (stops 6) (cond large (stops 6) (got (summed (groups ++ (n ∷ []))) [])))
@@ -167,31 +160,31 @@ read-last file groups s n false false = ap (numberRead (placeIn file)) (behind-g
 
 module _ (bytes groups : List ℕ) (count next : ℕ) where
   abbrev left : Read ℕ
-  left = behind (take count groups) (after count (drop next bytes))
+  left = behind (take count groups) (afterGroups count (drop next bytes))
 
-  pub missing : count < 5 → length bytes ≤ next → left ≡ stops 4
+  missing : count < 5 → length bytes ≤ next → left ≡ stops 4
   missing few short = rw (drop-of-length-le bytes short, none-left count few) (behind-stops (take count groups) 4)
 
-  pub five-and-no-last : 5 ≤ count → left ≡ stops 6
+  five-and-no-last : 5 ≤ count → left ≡ stops 6
   five-and-no-last many = rw (too-many count (drop next bytes) many) (behind-stops (take count groups) 6)
 
   module _ (few : count < 5) (five : length groups ≡ 5) (there : next < length bytes) where
     abbrev byte : ℕ
     byte = getD bytes next 0
 
-    next-byte : after count (drop next bytes) ≡ after count (byte ∷ drop (next + 1) bytes)
+    next-byte : afterGroups count (drop next bytes) ≡ afterGroups count (byte ∷ drop (next + 1) bytes)
     next-byte = rw (drop-cons bytes next 0 there, add-one next)
 
     -- a group that is not the last
     pub gathered : 128 ≤ byte
-        → left ≡ behind (take (count + 1) (set groups count (byte - 128))) (after (count + 1) (drop (next + 1) bytes))
+        → left ≡ behind (take (count + 1) (set groups count (byte - 128))) (afterGroups (count + 1) (drop (next + 1) bytes))
     gathered more =
         ap (behind (take count groups)) (next-byte ∙ (one-more count byte (drop (next + 1) bytes) few ∙ rw (le-ltb byte 128 more)))
-        ∙ (sym (behind-more (take count groups) (byte - 128) (after (suc count) (drop (next + 1) bytes)))
+        ∙ (sym (behind-more (take count groups) (byte - 128) (afterGroups (suc count) (drop (next + 1) bytes)))
         ∙ rw (add-one count, take-suc-set groups count (byte - 128) (omega arith)))
 
     -- the last group
-    pub ended : byte < 128 → ZerosFrom count groups → judged (set groups count byte) count (next + 1) ≡ numberRead (placeIn bytes) left
+    ended : byte < 128 → ZerosFrom count groups → judged (set groups count byte) count (next + 1) ≡ numberRead (placeIn bytes) left
     unfolding judged
     ended last zeros =
         let same : getD (set groups count byte) count 0 ≡ byte = getD-set-same groups count byte 0 (omega arith) in
@@ -202,6 +195,22 @@ module _ (bytes groups : List ℕ) (count next : ℕ) where
         ∙ (sym (read-last bytes (take count groups) (drop (next + 1) bytes) byte (ltb 0 count && eqb byte 0) (ltb 3 count && ltb 15 byte))
         ∙ ap (λ (r : Read ℕ). numberRead (placeIn bytes) (behind (take count groups) r))
         (sym (next-byte ∙ (one-more count byte (drop (next + 1) bytes) few ∙ rw (lt-ltb byte 128 last)))))
+
+  -- so, where what is left is what was to be read, each way out answers with the number
+  module _ (at : ℕ) (whole : left ≡ readNumber (drop at bytes)) where
+    left-is : numberRead (placeIn bytes) left ≡ numberAt bytes at
+    unfolding numberAt
+    left-is = ap (numberRead (placeIn bytes)) whole
+
+    pub byte-missing : count < 5 → length bytes ≤ next → Refused 4 ≡ numberAt bytes at
+    byte-missing few short = ap (numberRead (placeIn bytes)) (sym (missing few short)) ∙ left-is
+
+    pub no-last-group : 5 ≤ count → Refused 6 ≡ numberAt bytes at
+    no-last-group many = ap (numberRead (placeIn bytes)) (sym (five-and-no-last many)) ∙ left-is
+
+    pub last-judged : count < 5 → length groups ≡ 5 → next < length bytes → getD bytes next 0 < 128 → ZerosFrom count groups
+        → (r : NumberRead) → r ≡ judged (set groups count (getD bytes next 0)) count (next + 1) → r ≡ numberAt bytes at
+    last-judged few five there last zeros r e = e ∙ (ended few five there last zeros ∙ left-is)
 
 -- ---- what the loop keeps
 

@@ -1,4 +1,4 @@
--- Bytes laid at the start of what was lent, piece by piece, and what the lender then has. Rests on the kit's lists.
+-- Bytes laid at the start of what was lent, piece by piece, and what the lender then has. Rests on Parts.
 use Prim.Native.Nat.{ℕ, zero, suc, _+_, _-_, _<_, _≤_, min}
 use mathlib.Core.Bool.{Bool, true, false, cond}
 use mathlib.Core.List.{List, [], _∷_, _++_, append-nil}
@@ -7,25 +7,24 @@ use native.Mathlib.Omega.{arith}
 use native.Mathlib.Numerals.{add-one}
 use native.Mathlib.Nat.{zero-add}
 use borrow.Rule.Slice.PartMut.{putMid}
-use lib.ListN.{length, take, drop, set, getD, length-drop, drop-of-length-le, take-append-drop}
-use borrow.Author.Tests.{le-leb, lt-leb, leb-true, leb-false}
+use borrow.Author.Tests.{le-leb, lt-leb}
 use lib.Dec.{leb}
-use lib.Seq.{take-all, paste-suc}
+use lib.ListN.{length, take, drop, set, getD, length-drop, drop-of-length-le, take-append-drop}
+use lib.Seq.{take-all, take-length, length-take-le, paste-suc}
+use Rattle.record.specs.declared.Event.{Event}
 use Rattle.table.specs.Events.{sizesFit}
+use Rattle.table.proofs.Tests.{if-le}
 use Rattle.schedule.specs.declared.Header.{Header}
 use Rattle.schedule.specs.declared.Written.{Written}
 use Rattle.schedule.specs.declared.Written.the-variants.{Next, Refused}
+use Rattle.schedule.specs.declared.writing.Numbers.{Numbers}
 use Rattle.schedule.specs.Numbers.{numberBytes}
-use Rattle.schedule.specs.Encoding.{headerBytes}
-use Rattle.schedule.specs.Writing.{Wrote, room, laid, wrote, answered, put, writtenHeader}
-use Rattle.schedule.specs.Inside.Laying.{two, bytesOf, fitted, allOrNone, putInRest}
+use Rattle.schedule.specs.Encoding.{headerBytes, eventBytes}
+use Rattle.schedule.specs.Writing.{Wrote, room, laid, wrote, answered, put, writtenHeader, writtenEvent}
+use Rattle.schedule.specs.Inside.Laying.{two, tailBytes, bytesOf, fitted, allOrNone, putInRest}
+use Rattle.schedule.proofs.Parts.{tail-of-two, tail-of-three}
 
 -- ---- bytes laid as far as there is room
-
-fitted-none : (bytes : List ℕ) → fitted bytes [] ≡ []
-unfolding fitted
-fitted-none [] = refl
-fitted-none (b ∷ bytes) = refl
 
 pub fitted-whole : (bytes part : List ℕ) → length bytes ≤ length part → fitted bytes part ≡ bytes ++ drop (length bytes) part
 unfolding fitted
@@ -45,7 +44,7 @@ fitted-append : (a b part : List ℕ) (at : ℕ) → at ≡ min (length a) (leng
 unfolding fitted
 fitted-append [] b part zero n = refl
 fitted-append [] b part (suc at) n = absurd (omega arith)
-fitted-append (x ∷ a) b [] zero n = sym (fitted-none b)
+fitted-append (x ∷ a) b [] zero n = sym (fitted-full b [] (omega arith))
 fitted-append (x ∷ a) b [] (suc at) n = absurd (omega arith)
 fitted-append (x ∷ a) b (old ∷ part) zero n = absurd (omega arith)
 fitted-append (x ∷ a) b (old ∷ part) (suc at) n = ap (λ (l : List ℕ). x ∷ l) (fitted-append a b part at (omega arith))
@@ -57,17 +56,25 @@ rest-is out at = take-all (length out - at) (drop at out) (omega (arith, length-
 
 rest-back : (out new : List ℕ) (at : ℕ) → putMid at (length out - at) out new ≡ take at out ++ new
 rest-back out new at =
-    ap (λ (l : List ℕ). take at out ++ (new ++ l)) (drop-of-length-le (drop at out) {i = length out - at} (omega (arith, length-drop at out)))
-    ∙ ap (λ (l : List ℕ). take at out ++ l) (append-nil new)
+    rw (drop-of-length-le (drop at out) {i = length out - at} (omega (arith, length-drop at out)), append-nil)
 
 -- bytes laid, then others in the rest
 pub fitted-then : (a b out mid new : List ℕ) (at : ℕ) → mid ≡ fitted a out → at ≡ min (length a) (length out)
     → new ≡ fitted b (take (length mid - at) (drop at mid))
     → putMid at (length mid - at) mid new ≡ fitted (a ++ b) out
 fitted-then a b out mid new at e n f =
-    rest-back mid new at
-    ∙ (ap (λ (l : List ℕ). take at mid ++ l) (f ∙ ap (fitted b) (rest-is mid at))
-    ∙ (ap (λ (l : List ℕ). take at l ++ fitted b (drop at l)) e ∙ sym (fitted-append a b out at n)))
+    rest-back mid new at ∙ rw (f, rest-is mid at, e) (sym (fitted-append a b out at n))
+
+-- the second number, and the third where there is one
+module _ (x : Numbers) (out mid : List ℕ) (e : mid ≡ fitted (numberBytes (x .second)) out) where
+  pub two-laid : x .three ≡ false → mid ≡ fitted (tailBytes x) out
+  two-laid is = rw (tail-of-two x is) e
+
+  pub three-laid : (new : List ℕ) (at : ℕ) → x .three ≡ true → at ≡ min (length (numberBytes (x .second))) (length out)
+      → new ≡ fitted (numberBytes (x .third)) (take (length mid - at) (drop at mid))
+      → putMid at (length mid - at) mid new ≡ fitted (tailBytes x) out
+  three-laid new at is n f =
+      rw (tail-of-three x is) (fitted-then (numberBytes (x .second)) (numberBytes (x .third)) out mid new at e n f)
 
 -- ---- one byte after another
 
@@ -75,66 +82,58 @@ pub byte-more : (out bytes : List ℕ) (i : ℕ) → i < length out → i < leng
     → set (take i bytes ++ drop i out) i (getD bytes i 0) ≡ take (i + 1) bytes ++ drop (i + 1) out
 byte-more out bytes i h k = rw add-one (simp zero-add at (paste-suc out 0 bytes i 0 (omega arith) k))
 
--- ---- all the bytes, or none
+-- ---- all the bytes in the rest of the output, or none
 
-module _ (needed left count : ℕ) (e : count ≡ allOrNone needed left) where
-  by-room : (P : Type 0) → (needed ≤ left → count ≡ needed → P) → (left < needed → count ≡ 0 → P) → P
-  unfolding allOrNone
-  by-room P all none = by (leb needed left) refl
-    where
-      by : (b : Bool) → leb needed left ≡ b → P
-      by true is = all (leb-true needed left is) (rw is at e)
-      by false is = none (leb-false needed left is) (rw is at e)
+pub within-room : (needed left count : ℕ) → count ≡ allOrNone needed left → count ≤ left
+unfolding allOrNone
+within-room needed left count =
+    if-le (λ (k : ℕ). count ≡ k → count ≤ left) needed left (λ fits all. omega arith) (λ lacks none. omega arith)
 
-  pub within-room : count ≤ left
-  within-room = by-room (count ≤ left) (λ fits all. omega arith) (λ lacks none. omega arith)
+-- what the event writer has counted, and the numbers put in as many bytes
+module _ (bytes rest new : List ℕ) (at needed left count : ℕ)
+    (is-needed : needed ≡ length bytes) (is-left : left ≡ min (length rest) (65536 - at))
+    (is-count : count ≡ allOrNone needed left) (is-new : new ≡ fitted bytes (take count rest)) where
+  pub none-put : count < needed → wrote (new ++ drop count rest) at 9 ≡ putInRest bytes rest at
+  unfolding allOrNone putInRest
+  none-put h =
+      if-le (λ (k : ℕ). count ≡ k → wrote (new ++ drop count rest) at 9 ≡ putInRest bytes rest at) needed left
+      (λ fits all. absurd (omega arith))
+      (λ lacks none. rw (lt-leb (length bytes) (min (length rest) (65536 - at)) (omega arith), is-new, none, fitted-full bytes [] (omega arith)))
+      is-count
 
-  pub none-go-out : count < needed → (left < needed) × (count ≡ 0)
-  none-go-out h =
-      by-room ((left < needed) × (count ≡ 0)) (λ fits all. absurd (omega arith)) (λ lacks none. (lacks, none))
+  pub all-put : 1 ≤ length bytes → needed ≤ count → wrote (new ++ drop count rest) (at + needed) 0 ≡ putInRest bytes rest at
+  unfolding allOrNone putInRest
+  all-put some h =
+      if-le (λ (k : ℕ). count ≡ k → wrote (new ++ drop count rest) (at + needed) 0 ≡ putInRest bytes rest at) needed left
+      (λ fits all.
+      let lent : length (take (length bytes) rest) ≡ length bytes = length-take-le (length bytes) rest (omega arith) in
+      rw (
+        le-leb (length bytes) (min (length rest) (65536 - at)) (omega arith),
+        is-new,
+        all,
+        is-needed,
+        fitted-full bytes (take (length bytes) rest) (omega arith),
+        lent,
+        take-length,
+      ))
+      (λ lacks none. absurd (omega arith))
+      is-count
 
-  pub all-go-out : 1 ≤ needed → needed ≤ count → (needed ≤ left) × (count ≡ needed)
-  all-go-out some h =
-      by-room ((needed ≤ left) × (count ≡ needed)) (λ fits all. (fits, all)) (λ lacks none. absurd (omega arith))
+-- ---- in the output
 
--- ---- what the writer answers
+-- what was written in the rest of the output, with the front before it
+abbrev withFront : List ℕ → Wrote → Wrote
+withFront front w = wrote (front ++ w .output) (w .at) (w .refusal)
 
-lent-enough : (bytes part behind : List ℕ) → length bytes ≤ length part
-    → fitted bytes part ++ behind ≡ bytes ++ drop (length bytes) (part ++ behind)
-unfolding fitted
-lent-enough [] part behind h = refl
-lent-enough (b ∷ bytes) [] behind h = absurd (omega arith)
-lent-enough (b ∷ bytes) (old ∷ part) behind h = ap (λ (l : List ℕ). b ∷ l) (lent-enough bytes part behind (omega arith))
+answered-with-front : (front new : List ℕ) (at : ℕ) (r : Written) → answered (front ++ new) at r ≡ withFront front (answered new at r)
+answered-with-front front new at (Next next) = refl
+answered-with-front front new at (Refused n) = refl
 
-lent-nothing : (bytes part behind : List ℕ) → length part ≡ 0 → fitted bytes part ++ behind ≡ part ++ behind
-lent-nothing bytes [] behind h = ap (λ (l : List ℕ). l ++ behind) (fitted-none bytes)
-lent-nothing bytes (old ∷ part) behind h = absurd (omega arith)
-
--- in the rest of the output, of which a part was lent to the numbers
-module _ (bytes part behind new rest : List ℕ) (at : ℕ) (e : new ≡ fitted bytes part) (whole : part ++ behind ≡ rest) where
-  pub rest-fits : length bytes ≤ min (length rest) (65536 - at) → length bytes ≤ length part
-      → wrote (new ++ behind) (at + length bytes) 0 ≡ putInRest bytes rest at
-  unfolding putInRest
-  rest-fits h k = rw (le-leb (length bytes) (min (length rest) (65536 - at)) h, e, lent-enough bytes part behind k, whole)
-
-  pub rest-lacks : min (length rest) (65536 - at) < length bytes → length part ≡ 0
-      → wrote (new ++ behind) at 9 ≡ putInRest bytes rest at
-  unfolding putInRest
-  rest-lacks h none = rw (lt-leb (length bytes) (min (length rest) (65536 - at)) h, e, lent-nothing bytes part behind none, whole)
-
--- in the output
-abbrev after : List ℕ → Wrote → Wrote
-after front w = wrote (front ++ w .output) (w .at) (w .refusal)
-
-answered-after : (front new : List ℕ) (at : ℕ) (r : Written) → answered (front ++ new) at r ≡ after front (answered new at r)
-answered-after front new at (Next next) = refl
-answered-after front new at (Refused n) = refl
-
-put-after : (fits : Bool) (bytes out : List ℕ) (at : ℕ)
-    → after (take at out) (cond fits (wrote (laid bytes (drop at out) 0) (at + length bytes) 0) (wrote (drop at out) at 9))
+put-with-front : (fits : Bool) (bytes out : List ℕ) (at : ℕ)
+    → withFront (take at out) (cond fits (wrote (laid bytes (drop at out) 0) (at + length bytes) 0) (wrote (drop at out) at 9))
     ≡ cond fits (wrote (laid bytes out at) (at + length bytes) 0) (wrote out at 9)
-put-after true bytes out at = refl
-put-after false bytes out at = ap (λ (l : List ℕ). wrote l at 9) (take-append-drop at out)
+put-with-front true bytes out at = refl
+put-with-front false bytes out at = ap (λ (l : List ℕ). wrote l at 9) (take-append-drop at out)
 
 pub put-in-rest : (bytes out new : List ℕ) (at : ℕ) (r : Written)
     → answered new at r ≡ putInRest bytes (take (length out - at) (drop at out)) at
@@ -142,21 +141,25 @@ pub put-in-rest : (bytes out new : List ℕ) (at : ℕ) (r : Written)
 unfolding put putInRest
 put-in-rest bytes out new at r e =
     let same-room : min (length (drop at out)) (65536 - at) ≡ room out at = omega (arith, length-drop at out) in
-    ap (λ (l : List ℕ). answered l at r) (rest-back out new at)
-    ∙ (answered-after (take at out) new at r
-    ∙ (ap (after (take at out)) (e ∙ ap (λ (l : List ℕ). putInRest bytes l at) (rest-is out at))
-    ∙ (put-after (leb (length bytes) (min (length (drop at out)) (65536 - at))) bytes out at ∙ rw same-room)))
+    rw (rest-back out new at, answered-with-front (take at out) new at r, e, rest-is out at)
+    (put-with-front (leb (length bytes) (min (length (drop at out)) (65536 - at))) bytes out at ∙ rw same-room)
 
 pub put-past : (bytes out : List ℕ) (at : ℕ) → 1 ≤ length bytes → length out < at → wrote out at 9 ≡ put bytes out at
 unfolding put
 put-past bytes out at some h = rw (lt-leb (length bytes) (room out at) (omega arith))
 
-module _ (h : Header) (out : List ℕ) (at : ℕ) where
-  pub header-refused : sizesFit (h .nodes) (h .processes) ≡ false → wrote out at 7 ≡ writtenHeader h out at
-  unfolding writtenHeader
-  header-refused e = rw e
+pub event-put : (e : Event) (out : List ℕ) (at : ℕ) (x : Numbers) → bytesOf x ≡ eventBytes e
+    → (w : Wrote) → w ≡ put (bytesOf x) out at → w ≡ writtenEvent e out at
+unfolding writtenEvent
+event-put e out at x is w is-put = rw is at is-put
 
-  pub header-fits : sizesFit (h .nodes) (h .processes) ≡ true
-      → put (bytesOf (two (h .nodes) (h .processes))) out at ≡ writtenHeader h out at
+module _ (h : Header) (out : List ℕ) (at : ℕ) (fit : Bool) (is : fit ≡ sizesFit (h .nodes) (h .processes)) where
+  pub header-refused : fit ≡ false → wrote out at 7 ≡ writtenHeader h out at
+  unfolding writtenHeader
+  header-refused e = rw (← is, e)
+
+  pub header-put : fit ≡ true → (x : Numbers) → x ≡ two (h .nodes) (h .processes) → (w : Wrote) → w ≡ put (bytesOf x) out at
+      → w ≡ writtenHeader h out at
   unfolding writtenHeader headerBytes
-  header-fits e = rw (e, append-nil (numberBytes (h .processes)))
+  header-put e x is-two w is-put =
+      rw (← is, e) (is-put ∙ rw (is-two, append-nil (numberBytes (h .processes))))

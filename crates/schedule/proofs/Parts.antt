@@ -2,7 +2,7 @@
 use Prim.Native.Nat.{_+_, _≤_}
 use mathlib.Core.Bool.{true, false}
 use mathlib.Core.List.{_++_, append-nil}
-use mathlib.Core.Path.{_≡_, ap, _∙_}
+use mathlib.Core.Path.{_≡_}
 use native.Mathlib.Omega.{arith}
 use lib.ListN.{length, length-append}
 use Rattle.schedule.specs.declared.writing.Numbers.{Numbers}
@@ -25,4 +25,4 @@ module _ (x : Numbers) where
 
   pub tail-size-three : x .three ≡ true
       → length (tailBytes x) ≡ length (numberBytes (x .second)) + length (numberBytes (x .third))
-  tail-size-three e = ap length (tail-of-three e) ∙ length-append (numberBytes (x .second)) (numberBytes (x .third))
+  tail-size-three e = rw e (length-append (numberBytes (x .second)) (numberBytes (x .third)))

@@ -32,9 +32,7 @@ module _ (bytes found out : List ℕ) (rest at : ℕ) (here : at < length out) (
 
   stands : (b : ℕ) → getD bytes at 0 ≡ b → set out at b ≡ take (at + 1) bytes ++ drop (at + 1) found
   stands b e =
-      ap (λ (l : List ℕ). set l at b) (p .so-far)
-      ∙ (ap (λ (x : ℕ). set (take at bytes ++ drop at found) at x) (sym e)
-      ∙ byte-more found bytes at (omega (arith, p .same-length)) (p .inside))
+      rw (p .so-far, ← e) (byte-more found bytes at (omega (arith, p .same-length)) (p .inside))
 
   pub one-put : 128 ≤ rest → rest < 4294967296 → Putting bytes found (set out at (128 + rest % 128)) (rest / 128) (at + 1)
   one-put h small =

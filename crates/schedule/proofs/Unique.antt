@@ -1,6 +1,5 @@
 -- Any two outcomes that meet a public function's promise are equal: its answer, and of the writer the output. Rests on the promises' definitions.
 use Prim.Native.Nat.{ℕ, _+_, _≤_}
-use mathlib.Core.Bool.{Bool, true, false, cond}
 use mathlib.Core.List.{List}
 use mathlib.Core.Path.{_≡_, ap, sym, _∙_}
 use native.Mathlib.Omega.{arith}
@@ -9,6 +8,7 @@ use lib.ListN.{length, length-append}
 use Rattle.record.specs.Event.{kindOf}
 use Rattle.record.specs.declared.Event.{Event}
 use Rattle.table.specs.Events.{sizesFit}
+use Rattle.table.proofs.Tests.{if}
 use Rattle.schedule.specs.declared.Header.{Header}
 use Rattle.schedule.specs.declared.Cursor.{Cursor}
 use Rattle.schedule.specs.declared.NumberRead.{NumberRead}
@@ -18,7 +18,7 @@ use Rattle.schedule.specs.declared.Written.{Written}
 use Rattle.schedule.specs.declared.Written.the-variants.{Next, Refused}
 use Rattle.schedule.specs.Encoding.{headerBytes, eventBytes}
 use Rattle.schedule.specs.Cursors.{start, numberAt, headerAt, eventAt}
-use Rattle.schedule.specs.Writing.{Wrote, wrote, room, laid, put, answered, writtenHeader, writtenEvent}
+use Rattle.schedule.specs.Writing.{Wrote, room, put, answered, writtenHeader, writtenEvent}
 use Rattle.schedule.proofs.Sizes.{number-size}
 
 -- ---- the reader
@@ -42,10 +42,10 @@ read-event-unique bytes cursor r s e f = e ∙ sym f
 -- ---- the writer: no two answers stand for the same numbers, since a write takes a byte at least
 
 -- without a refusal the next place is a later one
-abbrev Tells : ℕ → Wrote → Type 0
-Tells at w = w .refusal ≡ 0 → at + 1 ≤ w .at
+abbrev Later : ℕ → Wrote → Type 0
+Later at w = w .refusal ≡ 0 → at + 1 ≤ w .at
 
-tells-apart : (at : ℕ) (w : Wrote) → Tells at w → (x y : List ℕ) (r s : Written) → answered x at r ≡ w
+tells-apart : (at : ℕ) (w : Wrote) → Later at w → (x y : List ℕ) (r s : Written) → answered x at r ≡ w
     → answered y at s ≡ w
     → (x ≡ y) × (r ≡ s)
 tells-apart at w t x y (Next m) (Next n) e f =
@@ -61,18 +61,10 @@ tells-apart at w t x y (Refused m) (Next n) e f =
     let here : at ≡ w .at = λ i. e i .at in
     absurd (omega (arith, t none))
 
-by-room : (b : Bool) (bytes out : List ℕ) (at : ℕ) → 1 ≤ length bytes
-    → Tells at (cond b (wrote (laid bytes out at) (at + length bytes) 0) (wrote out at 9))
-by-room true bytes out at some e = omega arith
-by-room false bytes out at some e = absurd (omega arith)
-
-put-tells : (bytes out : List ℕ) (at : ℕ) → 1 ≤ length bytes → Tells at (put bytes out at)
+put-later : (bytes out : List ℕ) (at : ℕ) → 1 ≤ length bytes → Later at (put bytes out at)
 unfolding put
-put-tells bytes out at some = by-room (leb (length bytes) (room out at)) bytes out at some
-
-by-sizes : (b : Bool) (w : Wrote) (out : List ℕ) (at : ℕ) → Tells at w → Tells at (cond b w (wrote out at 7))
-by-sizes true w out at t = t
-by-sizes false w out at t = λ e. absurd (omega arith)
+put-later bytes out at some =
+    if (Later at) (leb (length bytes) (room out at)) (λ _ e. omega arith) (λ _ e. absurd (omega arith))
 
 header-some : (h : Header) → 1 ≤ length (headerBytes h)
 unfolding headerBytes
@@ -89,7 +81,7 @@ module _ (out : List ℕ) (at : ℕ) (x y : List ℕ) (r s : Written) where
   unfolding writtenHeader
   write-header-unique h =
       tells-apart at (writtenHeader h out at)
-      (by-sizes (sizesFit (h .nodes) (h .processes)) (put (headerBytes h) out at) out at (put-tells (headerBytes h) out at (header-some h)))
+      (if (Later at) (sizesFit (h .nodes) (h .processes)) (λ _. put-later (headerBytes h) out at (header-some h)) (λ _ e. absurd (omega arith)))
       x y r s
 
   pub write-event-unique : (e : Event) → answered x at r ≡ writtenEvent e out at
@@ -97,4 +89,4 @@ module _ (out : List ℕ) (at : ℕ) (x y : List ℕ) (r s : Written) where
       → (x ≡ y) × (r ≡ s)
   unfolding writtenEvent
   write-event-unique e =
-      tells-apart at (writtenEvent e out at) (put-tells (eventBytes e) out at (event-some e)) x y r s
+      tells-apart at (writtenEvent e out at) (put-later (eventBytes e) out at (event-some e)) x y r s

@@ -1,8 +1,8 @@
--- What the reader's definitions give once the numbers at a place are known: one law for each way out of its functions. Rests on Places.
+-- What the reader's definitions give by what its calls answered: one law for each way out of its functions. Rests on Places.
 use Prim.Native.Nat.{ℕ, _-_, _<_, _≤_}
 use mathlib.Core.Bool.{Bool, true, false, cond, _&&_}
 use mathlib.Core.List.{List, []}
-use mathlib.Core.Path.{_≡_, refl}
+use mathlib.Core.Path.{_≡_, refl, _∙_}
 use native.Mathlib.Omega.{arith}
 use borrow.Author.Tests.{lt-ltb, le-ltb, le-leb, lt-leb}
 use lib.Dec.{leb}
@@ -10,12 +10,16 @@ use lib.ListN.{length, drop, drop-of-length-le}
 use lib.Seq.{drop-cons}
 use Rattle.record.specs.Record.{process, address}
 use Rattle.record.specs.declared.Process.{Process}
+use Rattle.record.specs.declared.Event.{Event}
 use Rattle.record.specs.declared.Event.the-variants.{Step}
 use Rattle.table.specs.Events.{sizesFit}
 use Rattle.schedule.specs.declared.Header.{Header}
 use Rattle.schedule.specs.declared.Cursor.{Cursor}
+use Rattle.schedule.specs.declared.NumberRead.{NumberRead}
 use Rattle.schedule.specs.declared.NumberRead.the-variants as number
+use Rattle.schedule.specs.declared.HeaderRead.{HeaderRead}
 use Rattle.schedule.specs.declared.HeaderRead.the-variants as header
+use Rattle.schedule.specs.declared.EventRead.{EventRead}
 use Rattle.schedule.specs.declared.EventRead.the-variants as event
 use Rattle.schedule.specs.Numbers.{got, stops, _then_}
 use Rattle.schedule.specs.Encoding.{burst}
@@ -36,93 +40,95 @@ module _ (file : List ℕ) (c : Cursor) where
   unfolding headerAt
   header-too-long long = rw (lt-ltb 65536 (length file) long)
 
-  module _ (short : length file ≤ 65536) where
-    pub header-first-refused : (n : ℕ) → numberAt file (c .at) ≡ number.Refused n → header.Refused n ≡ headerAt file c
+  module _ (short : length file ≤ 65536) (first : NumberRead) (is : first ≡ numberAt file (c .at)) where
+    pub header-first-refused : (n : ℕ) → first ≡ number.Refused n → header.Refused n ≡ headerAt file c
     unfolding headerAt readHeader _then_
-    header-first-refused n e = rw (le-ltb 65536 (length file) short, refused-number file (c .at) n e)
+    header-first-refused n e = rw (le-ltb 65536 (length file) short, refused-number file (c .at) n first is e)
 
-    module _ (nodes at : ℕ) (first : numberAt file (c .at) ≡ number.Got nodes at) where
-      pub header-second-refused : (n : ℕ) → numberAt file at ≡ number.Refused n → header.Refused n ≡ headerAt file c
+    module _ (nodes at : ℕ) (e : first ≡ number.Got nodes at) (second : NumberRead) (is′ : second ≡ numberAt file at) where
+      pub header-second-refused : (n : ℕ) → second ≡ number.Refused n → header.Refused n ≡ headerAt file c
       unfolding headerAt readHeader _then_
-      header-second-refused n e =
-          rw (le-ltb 65536 (length file) short, got-number file (c .at) nodes at first .reads, refused-number file at n e)
+      header-second-refused n e′ =
+          rw (le-ltb 65536 (length file) short, got-number file (c .at) nodes at first is e .reads, refused-number file at n second is′ e′)
 
-      pub header-sized : (processes next : ℕ) → numberAt file at ≡ number.Got processes next
-          → sizedAt nodes processes next ≡ headerAt file c
+      pub header-sized : (processes next : ℕ) → second ≡ number.Got processes next → (r : HeaderRead) → r ≡ sizedAt nodes processes next
+          → r ≡ headerAt file c
       unfolding headerAt readHeader _then_ sizedAt
-      header-sized processes next e =
-          let g = got-number file at processes next e in
-          rw (le-ltb 65536 (length file) short, got-number file (c .at) nodes at first .reads, g .reads)
+      header-sized processes next e′ r is-sized =
+          let g = got-number file at processes next second is′ e′ in
+          is-sized
+          ∙ rw (le-ltb 65536 (length file) short, got-number file (c .at) nodes at first is e .reads, g .reads)
           (sized (sizesFit nodes processes) file _ next (g .inside))
 
 -- ---- what follows the process of an event
 
+counted : (fits : Bool) (file : List ℕ) (p : Process) (count next : ℕ) → next ≤ length file
+    → eventRead (λ left. next) (cond fits (item (burst p count) []) (refuses 5))
+    ≡ readAs file (cond fits (got (burst p count) (drop next file)) (stops 5))
+counted true file p count next h = rw (place-of-drop file next h)
+counted false file p count next h = refl
+
 module _ (file : List ℕ) (p : Process) (at : ℕ) where
-  counted : (fits : Bool) (count next : ℕ) → next ≤ length file
-      → eventRead (λ left. next) (cond fits (item (burst p count) []) (refuses 5))
-      ≡ readAs file (cond fits (got (burst p count) (drop next file)) (stops 5))
-  counted true count next h = rw (place-of-drop file next h)
-  counted false count next h = refl
+  module _ (read : NumberRead) (is : read ≡ numberAt file at) where
+    pub burst-counted : (count next : ℕ) → read ≡ number.Got count next → (r : EventRead) → r ≡ burstOf p count next → r ≡ burstAt file p at
+    unfolding burstOf burstAt readBurst _then_
+    burst-counted count next e r is-burst =
+        let g = got-number file at count next read is e in
+        is-burst ∙ rw (g .reads) (counted (leb 1 count && leb count 255) file p count next (g .inside))
 
-  pub burst-counted : (count next : ℕ) → numberAt file at ≡ number.Got count next → burstOf p count next ≡ burstAt file p at
-  unfolding burstOf burstAt readBurst _then_
-  burst-counted count next e =
-      let g = got-number file at count next e in
-      rw (g .reads) (counted (leb 1 count && leb count 255) count next (g .inside))
+    pub burst-refused : (n : ℕ) → read ≡ number.Refused n → event.Refused n ≡ burstAt file p at
+    unfolding burstAt readBurst _then_
+    burst-refused n e = rw (refused-number file at n read is e)
 
-  pub burst-refused : (n : ℕ) → numberAt file at ≡ number.Refused n → event.Refused n ≡ burstAt file p at
-  unfolding burstAt readBurst _then_
-  burst-refused n e = rw (refused-number file at n e)
+    module _ (kind : ℕ) where
+      pub request-addressed : (a next : ℕ) → read ≡ number.Got a next → (e : Event) → e ≡ request kind p (address a)
+          → (after : Cursor) → after ≡ cursorAt next → event.Got e after ≡ requestAt file kind p at
+      unfolding requestAt _then_
+      request-addressed a next e r is-request after is-after =
+          let g = got-number file at a next read is e in rw (is-request, is-after, g .reads, place-of-drop file next (g .inside))
+
+      pub request-refused : (n : ℕ) → read ≡ number.Refused n → event.Refused n ≡ requestAt file kind p at
+      unfolding requestAt _then_
+      request-refused n e = rw (refused-number file at n read is e)
 
   module _ (kind : ℕ) where
-    pub request-addressed : (a next : ℕ) → numberAt file at ≡ number.Got a next
-        → event.Got (request kind p (address a)) (cursorAt next) ≡ requestAt file kind p at
-    unfolding requestAt _then_
-    request-addressed a next e =
-        let g = got-number file at a next e in rw (g .reads, place-of-drop file next (g .inside))
-
-    pub request-refused : (n : ℕ) → numberAt file at ≡ number.Refused n → event.Refused n ≡ requestAt file kind p at
-    unfolding requestAt _then_
-    request-refused n e = rw (refused-number file at n e)
-
-    pub rest-request : kind ≤ 2 → requestAt file kind p at ≡ restAt file kind p at
+    pub rest-request : kind ≤ 2 → (r : EventRead) → r ≡ requestAt file kind p at → r ≡ restAt file kind p at
     unfolding requestAt restAt readRest
-    rest-request h = rw (le-ltb 6 kind (omega arith), le-leb kind 2 h)
+    rest-request h r e = rw (le-leb kind 2 h) e
 
-    pub rest-move : 2 < kind → kind ≤ 5 → at ≤ length file → event.Got (move kind p) (cursorAt at) ≡ restAt file kind p at
+    pub rest-move : 2 < kind → kind ≤ 5 → at ≤ length file → (e : Event) → e ≡ move kind p → (after : Cursor) → after ≡ cursorAt at
+        → event.Got e after ≡ restAt file kind p at
     unfolding restAt readRest
-    rest-move h k inside = rw (le-ltb 6 kind (omega arith), lt-leb kind 2 h, le-leb kind 5 k, place-of-drop file at inside)
+    rest-move h k inside e is after is-after =
+        rw (is, is-after, lt-leb kind 2 h, le-leb kind 5 k, place-of-drop file at inside)
 
-    pub rest-burst : 5 < kind → kind ≤ 6 → burstAt file p at ≡ restAt file kind p at
+    pub rest-burst : 5 < kind → (r : EventRead) → r ≡ burstAt file p at → r ≡ restAt file kind p at
     unfolding burstAt restAt readRest
-    rest-burst h k = rw (le-ltb 6 kind k, lt-leb kind 2 (omega arith), lt-leb kind 5 h)
-
-    pub rest-refused : 6 < kind → event.Refused 5 ≡ restAt file kind p at
-    unfolding restAt
-    rest-refused h = rw (lt-ltb 6 kind h)
+    rest-burst h r e = rw (lt-leb kind 2 (omega arith), lt-leb kind 5 h) e
 
 -- ---- an event
 
-module _ (file : List ℕ) (at : ℕ) where
-  pub kind-refused : (n : ℕ) → numberAt file at ≡ number.Refused n → event.Refused n ≡ itemAt file at
+module _ (file : List ℕ) (at : ℕ) (first : NumberRead) (is : first ≡ numberAt file at) where
+  pub kind-refused : (n : ℕ) → first ≡ number.Refused n → event.Refused n ≡ itemAt file at
   unfolding itemAt readItem _then_
-  kind-refused n e = rw (refused-number file at n e)
+  kind-refused n e = rw (refused-number file at n first is e)
 
-  module _ (kind next : ℕ) (first : numberAt file at ≡ number.Got kind next) where
+  module _ (kind next : ℕ) (e : first ≡ number.Got kind next) where
     pub kind-above : 6 < kind → event.Refused 5 ≡ itemAt file at
     unfolding itemAt readItem _then_
-    kind-above h = rw (got-number file at kind next first .reads, lt-ltb 6 kind h)
+    kind-above h = rw (got-number file at kind next first is e .reads, lt-ltb 6 kind h)
 
-    pub process-refused : kind ≤ 6 → (n : ℕ) → numberAt file next ≡ number.Refused n → event.Refused n ≡ itemAt file at
-    unfolding itemAt readItem _then_
-    process-refused h n e =
-        rw (got-number file at kind next first .reads, le-ltb 6 kind h, refused-number file next n e)
+    module _ (below : kind ≤ 6) (second : NumberRead) (is′ : second ≡ numberAt file next) where
+      pub process-refused : (n : ℕ) → second ≡ number.Refused n → event.Refused n ≡ itemAt file at
+      unfolding itemAt readItem _then_
+      process-refused n e′ =
+          rw (got-number file at kind next first is e .reads, le-ltb 6 kind below, refused-number file next n second is′ e′)
 
-    pub process-read : (p after : ℕ) → numberAt file next ≡ number.Got p after
-        → restAt file kind (process p) after ≡ itemAt file at
-    unfolding itemAt readItem restAt _then_
-    process-read p after e =
-        rw (got-number file at kind next first .reads, got-number file next p after e .reads)
+      pub process-read : (p after : ℕ) → second ≡ number.Got p after → (r : EventRead) → r ≡ restAt file kind (process p) after
+          → r ≡ itemAt file at
+      unfolding itemAt readItem restAt _then_
+      process-read p after e′ r is-rest =
+          rw (got-number file at kind next first is e .reads, le-ltb 6 kind below, got-number file next p after second is′ e′ .reads) is-rest
 
 module _ (file : List ℕ) (c : Cursor) where
   pub burst-goes-on : 0 < c .left
@@ -135,6 +141,6 @@ module _ (file : List ℕ) (c : Cursor) where
     unfolding eventAt nextItem
     file-ends h = rw (le-ltb 0 (c .left) none, drop-of-length-le file h)
 
-    pub item-stands : c .at < length file → itemAt file (c .at) ≡ eventAt file c
+    pub item-stands : c .at < length file → (r : EventRead) → r ≡ itemAt file (c .at) → r ≡ eventAt file c
     unfolding eventAt nextItem itemAt
-    item-stands h = rw (le-ltb 0 (c .left) none, drop-cons file (c .at) 0 h)
+    item-stands h r e = rw (le-ltb 0 (c .left) none, drop-cons file (c .at) 0 h) (rw (drop-cons file (c .at) 0 h) at e)

@@ -129,7 +129,7 @@ fn read_request(bytes: &[u8], kind: u32, process: Process, at: usize) -> EventRe
     }
 }
 
-// An event, its kind and process read: the kind says what follows, and above 6 it is refused.
+// An event, its kind and process read: the kind says what follows.
 fn read_rest(bytes: &[u8], kind: u32, process: Process, at: usize) -> EventRead
     requires { ⌜ at ≤ length (now bytes) ⌝ }
     ensures { λ r. ⌜ r ≡ restAt (now (bytes .entry)) kind process at ⌝ }
@@ -142,10 +142,7 @@ fn read_rest(bytes: &[u8], kind: u32, process: Process, at: usize) -> EventRead
         let after = cursor_at(at);
         return EventRead::Got(event, after);
     }
-    if kind <= 6 {
-        return read_burst(bytes, process, at);
-    }
-    EventRead::Refused(5)
+    read_burst(bytes, process, at)
 }
 
 // An event that stands at a place: its kind is judged before its process is read.
@@ -156,12 +153,13 @@ fn read_item(bytes: &[u8], at: usize) -> EventRead
     match first {
         NumberRead::Got(kind, at) => {
             if 6 < kind {
-                return EventRead::Refused(5);
-            }
-            let second = read_number(bytes, at);
-            match second {
-                NumberRead::Got(process, next) => read_rest(bytes, kind, Process(process), next),
-                NumberRead::Refused(refusal) => EventRead::Refused(refusal),
+                EventRead::Refused(5)
+            } else {
+                let second = read_number(bytes, at);
+                match second {
+                    NumberRead::Got(number, next) => read_rest(bytes, kind, Process(number), next),
+                    NumberRead::Refused(refusal) => EventRead::Refused(refusal),
+                }
             }
         }
         NumberRead::Refused(refusal) => EventRead::Refused(refusal),

@@ -2,7 +2,7 @@
 use mathlib.Core.Bool.{cond, _&&_}
 use mathlib.Core.List.{List, []}
 use Prim.Native.Nat.{ℕ}
-use lib.Dec.{leb, ltb}
+use lib.Dec.{leb}
 use lib.ListN.{drop}
 use Rattle.record.specs.Record.{address}
 use Rattle.record.specs.declared.Process.{Process}
@@ -35,7 +35,7 @@ unfoldable pub requestAt : List ℕ → (kind : ℕ) → Process → ℕ → Eve
 requestAt file kind p at = readAs file (readNumber (drop at file) then λ a s. got (single (request kind p (address a))) s)
 
 unfoldable pub restAt : List ℕ → (kind : ℕ) → Process → ℕ → EventRead
-restAt file kind p at = readAs file (cond (ltb 6 kind) (stops 5) (readRest kind p (drop at file)))
+restAt file kind p at = readAs file (readRest kind p (drop at file))
 
 unfoldable pub itemAt : List ℕ → ℕ → EventRead
 itemAt file at = readAs file (readItem (drop at file))

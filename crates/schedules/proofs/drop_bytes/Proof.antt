@@ -1,6 +1,5 @@
 -- The count of bytes left falls.
 use mathlib.Core.Path.{_≡_}
-use Prim.Native.Nat.{_-_}
 use lib.ListN.{length}
 use borrow.Author.Needs.{needs}
 use Rattle.schedules.proofs.drop_bytes.Statement.{statement}

@@ -1,6 +1,6 @@
 -- The arrays keep their lengths; the count of files left falls.
-use mathlib.Core.Path.{_≡_, sym, _∙_}
-use Prim.Native.Nat.{ℕ, _-_}
+use mathlib.Core.Path.{_≡_}
+use Prim.Native.Nat.{ℕ}
 use lib.ListN.{length}
 use lib.Seq.{length-take-le}
 use borrow.Author.Needs.{needs}
@@ -24,7 +24,7 @@ abbrev μ-loop : tie.MeasureT-loop
 μ-loop groups₀ file₀ addresses₀ links₀ deleters₀ block₀ left₀ groups file addresses links deleters block left = left
 
 loop-holds : tie.Need-loop-holds Inv-loop μ-loop
-loop-holds c = record { groups-are = search needs; file-is = search needs; addresses-are = search needs; links-are = search needs; deleters-are = search needs; block-is = search needs }
+loop-holds c = search needs
 
 sub-left : tie.Need-sub-left Inv-loop μ-loop
 sub-left c = search needs
@@ -39,7 +39,7 @@ array-share-prefix-groups : tie.Need-array-share-prefix-groups Inv-loop μ-loop
 array-share-prefix-groups c = search needs
 
 slice-aggregate-read-number : tie.Need-slice-aggregate-read-number Inv-loop μ-loop
-slice-aggregate-read-number c = sym (length-take-le _ _ (c .before .before .read-groups .ensures))
+slice-aggregate-read-number c = search (needs, length-take-le)
 
 read-number-requires : tie.Need-read-number-requires Inv-loop μ-loop
 read-number-requires c κs = search needs
@@ -78,9 +78,7 @@ array-share-prefix-file : tie.Need-array-share-prefix-file Inv-loop μ-loop
 array-share-prefix-file c = search needs
 
 slice-aggregate-print-output : tie.Need-slice-aggregate-print-output Inv-loop μ-loop
-slice-aggregate-print-output c =
-    let c5 = c .before .before .before .before .before in
-    sym (length-take-le _ _ (c5 .read-some .ensures .1))
+slice-aggregate-print-output c = search (needs, length-take-le)
 
 slice-aggregate-print-output-2 : tie.Need-slice-aggregate-print-output-2 Inv-loop μ-loop
 slice-aggregate-print-output-2 c = search needs
@@ -104,23 +102,7 @@ loop-less : tie.Need-loop-less Inv-loop μ-loop
 loop-less c = search needs
 
 loop-again : tie.Need-loop-again Inv-loop μ-loop
-loop-again c =
-    let c5 = c .before .before .before .before .before in
-    let c12 = c5 .before .before .before .before .before .before .before in
-    let c15 = c12 .before .before .before in
-    let c23 = c15 .before .before .before .before .before .before .before .before in
-    let c26 = c23 .before .before .before in
-    let v = c26 .loop .inv in
-    let p = c5 .print-output in
-    record {
-      groups-are = c23 .read-groups .kept .0 ∙ v .groups-are;
-      file-is = c15 .read-some .kept .0 ∙ v .file-is;
-      addresses-are = p .kept .1 .0 ∙ v .addresses-are;
-      links-are = p .kept .1 .1 .0 ∙ v .links-are;
-      deleters-are = p .kept .1 .1 .1 .0 ∙ v .deleters-are;
-      block-is = p .kept .1 .1 .1 .1 .0 ∙
-          (c12 .drop-bytes .kept .0 ∙ v .block-is);
-    }
+loop-again c = search needs
 
 returns-3 : tie.Need-returns-3 Inv-loop μ-loop
 returns-3 c = search needs

@@ -1,7 +1,5 @@
 -- What is read stays within the count and the space.
 use lib.ListN.{length-append}
-use mathlib.Core.Path.{sym}
-use Prim.Native.Nat.{_-_}
 use native.Mathlib.Omega.{arith}
 use lib.Seq.{length-take-le}
 use borrow.Author.Needs.{needs}
@@ -15,7 +13,7 @@ slice-relend-prefix-read-full : tie.Need-slice-relend-prefix-read-full
 slice-relend-prefix-read-full c = search needs
 
 slice-aggregate-read-full : tie.Need-slice-aggregate-read-full
-slice-aggregate-read-full c = sym (length-take-le _ _ (c .before .least .ensures .1))
+slice-aggregate-read-full c = search (needs, length-take-le)
 
 read-full-requires : tie.Need-read-full-requires
 read-full-requires c κs = search needs

@@ -10,7 +10,7 @@ array-read-if2 : tie.Need-array-read-if2
 array-read-if2 c = search needs
 
 returns : tie.Need-returns
-returns c = let a = c .before .before .args in zero-last (a .t1) (a .last) (a .next) (omega arith) (c .if2 .taken)
+returns c = zero-last _ _ _ (omega arith) (c .if2 .taken)
 
 array-read-fifth : tie.Need-array-read-fifth
 array-read-fifth c = search needs

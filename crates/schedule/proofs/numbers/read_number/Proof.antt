@@ -5,27 +5,24 @@ use native.Mathlib.Omega.{arith}
 use borrow.Author.Needs.{needs}
 use lib.ListN.{take, drop}
 use Rattle.schedule.specs.Numbers.{readNumber}
-use Rattle.schedule.proofs.Gathers.{after, behind, number-is, still-groups, Gathered, none-gathered, one-gathered}
-use Rattle.schedule.proofs.Gathers.{missing, gathered, ended, five-and-no-last}
+use Rattle.schedule.proofs.Gathers.{afterGroups, behind, still-groups, Gathered, none-gathered, one-gathered}
+use Rattle.schedule.proofs.Gathers.{gathered, byte-missing, last-judged, no-last-group}
 use Rattle.schedule.proofs.numbers.read_number.Statement.{statement}
 use Rattle.schedule.proofs.numbers.read_number.Tie as tie
 
 abbrev Inv-loop : tie.InvT-loop
 Inv-loop bytes at groups₀ count₀ next₀ groups count next =
-    Gathered count groups (behind (take count groups) (after count (drop next bytes)) ≡ readNumber (drop at bytes))
+    Gathered count groups (behind (take count groups) (afterGroups count (drop next bytes)) ≡ readNumber (drop at bytes))
 
 abbrev μ-loop : tie.MeasureT-loop
 μ-loop bytes at groups₀ count₀ next₀ groups count next = 5 - count
 
 loop-holds : tie.Need-loop-holds Inv-loop μ-loop
-unfolding after
+unfolding afterGroups
 loop-holds c = none-gathered refl
 
 returns : tie.Need-returns Inv-loop μ-loop
-returns c =
-    let l = c .before .before .loop in
-    let a = c .before .before .before .before .args in
-    number-is (a .bytes .now) (a .at) _ (sym (missing (a .bytes .now) (l .groups) (l .count) (l .next) (omega arith) (omega arith)) ∙ l .inv .whole)
+returns c = search (needs, byte-missing)
 
 shared-slice-read-byte : tie.Need-shared-slice-read-byte Inv-loop μ-loop
 shared-slice-read-byte c = search needs
@@ -37,17 +34,10 @@ array-write-groups : tie.Need-array-write-groups Inv-loop μ-loop
 array-write-groups c = search needs
 
 judge-requires : tie.Need-judge-requires Inv-loop μ-loop
-judge-requires c κs =
-    let l = c .before .before .before .before .loop in
-    (still-groups (l .groups) (l .count) _ (omega arith) (l .inv .seven-bits), omega arith)
+judge-requires c κs = search (needs, still-groups)
 
 returns-2 : tie.Need-returns-2 Inv-loop μ-loop
-returns-2 c =
-    let l = c .before .before .before .before .before .loop in
-    let a = c .before .before .before .before .before .before .before .args in
-    c .judge .ensures
-    ∙ (ended (a .bytes .now) (l .groups) (l .count) (l .next) (omega arith) (l .inv .five) (omega arith) (omega arith) (l .inv .zeros)
-    ∙ number-is (a .bytes .now) (a .at) _ (l .inv .whole))
+returns-2 c = search (needs, last-judged)
 
 array-write-groups-2 : tie.Need-array-write-groups-2 Inv-loop μ-loop
 array-write-groups-2 c = search needs
@@ -66,10 +56,7 @@ loop-again c =
     (sym (gathered (a .bytes .now) (l .groups) (l .count) (l .next) (omega arith) (l .inv .five) (omega arith) (omega arith)) ∙ l .inv .whole)
 
 returns-3 : tie.Need-returns-3 Inv-loop μ-loop
-returns-3 c =
-    let l = c .before .loop in
-    let a = c .before .before .before .args in
-    number-is (a .bytes .now) (a .at) _ (sym (five-and-no-last (a .bytes .now) (l .groups) (l .count) (l .next) (omega arith)) ∙ l .inv .whole)
+returns-3 c = search (needs, no-last-group)
 
 pub read-number-spec : {M : Type 1} → statement M
 read-number-spec =

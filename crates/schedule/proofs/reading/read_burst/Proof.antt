@@ -1,5 +1,4 @@
 -- The law of each way out is in WaysOut.
-use mathlib.Core.Path.{sym, _∙_}
 use borrow.Author.Needs.{needs}
 use Rattle.schedule.proofs.WaysOut.{burst-counted, burst-refused}
 use Rattle.schedule.proofs.reading.read_burst.Statement.{statement}
@@ -18,10 +17,10 @@ enum-known-read-2 : tie.Need-enum-known-read-2
 enum-known-read-2 c = search needs
 
 returns : tie.Need-returns
-returns c = c .burst .ensures ∙ burst-counted _ _ _ _ _ (sym (c .before .before .before .before .read-number .ensures) ∙ c .before .before .read .given .1)
+returns c = search (needs, burst-counted)
 
 returns-2 : tie.Need-returns-2
-returns-2 c = burst-refused _ _ _ _ (sym (c .before .before .before .read-number .ensures) ∙ c .before .read2 .given .1)
+returns-2 c = search (needs, burst-refused)
 
 pub read-burst-spec : {M : Type 1} → statement M
 read-burst-spec =

@@ -1,13 +1,11 @@
 -- The law of each way out is in WaysOut.
-use mathlib.Core.Path.{sym, _∙_}
-use native.Mathlib.Omega.{arith}
 use borrow.Author.Needs.{needs}
 use Rattle.schedule.proofs.WaysOut.{header-too-long, header-first-refused, header-second-refused, header-sized}
 use Rattle.schedule.proofs.reading.read_header.Statement.{statement}
 use Rattle.schedule.proofs.reading.read_header.Tie as tie
 
 returns : tie.Need-returns
-returns c = header-too-long _ _ (omega arith)
+returns c = search (needs, header-too-long)
 
 read-number-requires : tie.Need-read-number-requires
 read-number-requires c κs = search needs
@@ -31,22 +29,13 @@ enum-known-first-2 : tie.Need-enum-known-first-2
 enum-known-first-2 c = search needs
 
 returns-2 : tie.Need-returns-2
-returns-2 c =
-    let two = c .before .before .before .before in
-    let first = two .before .before in
-    c .sized .ensures
-    ∙ header-sized _ _ (omega arith) _ _ (sym (first .before .before .read-number .ensures) ∙ first .first .given .1) _ _
-    (sym (two .read-number2 .ensures) ∙ c .before .before .second .given .1)
+returns-2 c = search (needs, header-sized)
 
 returns-3 : tie.Need-returns-3
-returns-3 c =
-    let two = c .before .before .before in
-    let first = two .before .before in
-    header-second-refused _ _ (omega arith) _ _ (sym (first .before .before .read-number .ensures) ∙ first .first .given .1) _
-    (sym (two .read-number2 .ensures) ∙ c .before .second2 .given .1)
+returns-3 c = search (needs, header-second-refused)
 
 returns-4 : tie.Need-returns-4
-returns-4 c = header-first-refused _ _ (omega arith) _ (sym (c .before .before .before .read-number .ensures) ∙ c .before .first2 .given .1)
+returns-4 c = search (needs, header-first-refused)
 
 pub read-header-spec : {M : Type 1} → statement M
 read-header-spec =

@@ -1,5 +1,4 @@
 -- The law of each way out is in WaysOut.
-use mathlib.Core.Path.{sym, _∙_}
 use borrow.Author.Needs.{needs}
 use Rattle.schedule.proofs.WaysOut.{request-addressed, request-refused}
 use Rattle.schedule.proofs.reading.read_request.Statement.{statement}
@@ -21,13 +20,10 @@ enum-known-read-2 : tie.Need-enum-known-read-2
 enum-known-read-2 c = search needs
 
 returns : tie.Need-returns
-returns c =
-    let read = c .before .before .before in
-    rw (c .before .request .ensures, c .cursor-at .ensures)
-    (request-addressed _ _ _ _ _ _ (sym (read .before .before .read-number .ensures) ∙ read .read .given .1))
+returns c = search (needs, request-addressed)
 
 returns-2 : tie.Need-returns-2
-returns-2 c = request-refused _ _ _ _ _ (sym (c .before .before .before .read-number .ensures) ∙ c .before .read2 .given .1)
+returns-2 c = search (needs, request-refused)
 
 pub read-request-spec : {M : Type 1} → statement M
 read-request-spec =

@@ -1,8 +1,6 @@
 -- The law of each way out is in WaysOut.
-use mathlib.Core.Path.{_∙_}
-use native.Mathlib.Omega.{arith}
 use borrow.Author.Needs.{needs}
-use Rattle.schedule.proofs.WaysOut.{rest-request, rest-move, rest-burst, rest-refused}
+use Rattle.schedule.proofs.WaysOut.{rest-request, rest-move, rest-burst}
 use Rattle.schedule.proofs.reading.read_rest.Statement.{statement}
 use Rattle.schedule.proofs.reading.read_rest.Tie as tie
 
@@ -10,7 +8,7 @@ read-request-requires : tie.Need-read-request-requires
 read-request-requires c κs = search needs
 
 returns : tie.Need-returns
-returns c = c .read-request .ensures ∙ rest-request _ _ _ _ (omega arith)
+returns c = search (needs, rest-request)
 
 move-of-requires : tie.Need-move-of-requires
 move-of-requires c κs = search needs
@@ -19,16 +17,13 @@ cursor-at-requires : tie.Need-cursor-at-requires
 cursor-at-requires c κs = search needs
 
 returns-2 : tie.Need-returns-2
-returns-2 c = rw (c .before .move-of .ensures, c .cursor-at .ensures) (rest-move _ _ _ _ (omega arith) (omega arith) (omega arith))
+returns-2 c = search (needs, rest-move)
 
 read-burst-requires : tie.Need-read-burst-requires
 read-burst-requires c κs = search needs
 
 returns-3 : tie.Need-returns-3
-returns-3 c = c .read-burst .ensures ∙ rest-burst _ _ _ _ (omega arith) (omega arith)
-
-returns-4 : tie.Need-returns-4
-returns-4 c = rest-refused _ _ _ _ (omega arith)
+returns-3 c = search (needs, rest-burst)
 
 pub read-rest-spec : {M : Type 1} → statement M
 read-rest-spec =
@@ -40,5 +35,4 @@ read-rest-spec =
     cursor-at-requires
     returns-2
     read-burst-requires
-    returns-3
-    returns-4)
+    returns-3)

@@ -1,9 +1,9 @@
--- All the bytes go out, or none; what is lent is as much (`rest-fits`, `rest-lacks`).
+-- All the bytes go out, or none; what is lent is as much (`all-put`, `none-put`).
 use native.Mathlib.Omega.{arith}
 use borrow.Author.Needs.{needs}
-use lib.ListN.{length-take, take-append-drop}
+use lib.ListN.{length-take}
 use Rattle.schedule.proofs.Parts.{all-some}
-use Rattle.schedule.proofs.Lays.{within-room, none-go-out, all-go-out, rest-fits, rest-lacks}
+use Rattle.schedule.proofs.Lays.{within-room, none-put, all-put}
 use Rattle.schedule.proofs.writing.put_event.Statement.{statement}
 use Rattle.schedule.proofs.writing.put_event.Tie as tie
 
@@ -29,30 +29,16 @@ same-length : tie.Need-same-length
 same-length c = search needs
 
 returns : tie.Need-returns
-returns c =
-    let out = c .before .before .before in
-    let counted = out .before .before in
-    let none = none-go-out _ _ _ (counted .all-or-none .ensures) (omega arith) in
-    rest-lacks _ _ _ _ _ _ (out .put-numbers .ensures) (simp take-append-drop) (omega arith) (simp length-take (omega arith))
+returns c = search (needs, none-put)
 
 add-t7 : tie.Need-add-t7
-add-t7 c =
-    let counted = c .before .before .before .before .before in
-    let some = all-some (counted .before .before .before .before .args .numbers) in
-    let all = all-go-out _ _ _ (counted .all-or-none .ensures) (omega arith) (omega arith) in
-    omega arith
+add-t7 c = omega (arith, within-room _ _ _ (c .before .before .before .before .before .all-or-none .ensures))
 
 same-length-2 : tie.Need-same-length-2
 same-length-2 c = search needs
 
 returns-2 : tie.Need-returns-2
-returns-2 c =
-    let out = c .before .before .before in
-    let counted = out .before .before in
-    let some = all-some (counted .before .before .before .before .args .numbers) in
-    let all = all-go-out _ _ _ (counted .all-or-none .ensures) (omega arith) (omega arith) in
-    rw (counted .before .before .size .ensures)
-    (rest-fits _ _ _ _ _ _ (out .put-numbers .ensures) (simp take-append-drop) (omega arith) (simp length-take (omega arith)))
+returns-2 c = search (needs, all-put, all-some)
 
 pub put-event-spec : {M : Type 1} → statement M
 put-event-spec =

@@ -1,7 +1,5 @@
 -- The first number, then the others in the rest (`fitted-then`).
 use borrow.Author.Needs.{needs}
-use Rattle.schedule.specs.Numbers.{numberBytes}
-use Rattle.schedule.specs.Inside.Laying.{tailBytes}
 use Rattle.schedule.proofs.Lays.{fitted-then}
 use Rattle.schedule.proofs.writing.put_numbers.Statement.{statement}
 use Rattle.schedule.proofs.writing.put_numbers.Tie as tie
@@ -25,11 +23,7 @@ same-length : tie.Need-same-length
 same-length c = search needs
 
 returns : tie.Need-returns
-returns c =
-    let p = c .before .before .before .before .before .before in
-    let a = p .before .before .before .args in
-    fitted-then (numberBytes (a .numbers .first)) (tailBytes (a .numbers)) (a .out .now) _ _ _ (p .put-number .ensures .0)
-    (p .put-number .ensures .1) (c .before .before .put-tail .ensures)
+returns c = search (needs, fitted-then)
 
 pub put-numbers-spec : {M : Type 1} → statement M
 put-numbers-spec =

@@ -1,10 +1,6 @@
 -- By `sizes_fit`, then as two numbers.
-use mathlib.Core.Path.{ap, sym, _∙_}
 use borrow.Author.Needs.{needs}
-use Rattle.schedule.specs.declared.writing.Numbers.{Numbers}
-use Rattle.schedule.specs.Writing.{put}
-use Rattle.schedule.specs.Inside.Laying.{bytesOf}
-use Rattle.schedule.proofs.Lays.{header-refused, header-fits}
+use Rattle.schedule.proofs.Lays.{header-refused, header-put}
 use Rattle.schedule.proofs.writing.write_header.Statement.{statement}
 use Rattle.schedule.proofs.writing.write_header.Tie as tie
 
@@ -21,16 +17,10 @@ same-length : tie.Need-same-length
 same-length c = search needs
 
 returns : tie.Need-returns
-returns c =
-    let chosen = c .before .before .before .before in
-    let a = chosen .before .before .before .before .args in
-    let fit = sym (chosen .before .before .sizes-fit .ensures) ∙ chosen .before .if1 .taken in
-    c .before .before .write-numbers .ensures
-    ∙ (ap (λ (x : Numbers). put (bytesOf x) (a .out .now) (a .at)) (chosen .two-numbers .ensures)
-    ∙ header-fits (a .header) (a .out .now) (a .at) fit)
+returns c = search (needs, header-put)
 
 returns-2 : tie.Need-returns-2
-returns-2 c = header-refused _ _ _ (sym (c .before .sizes-fit .ensures) ∙ c .if1 .left)
+returns-2 c = search (needs, header-refused)
 
 pub write-header-spec : {M : Type 1} → statement M
 write-header-spec =

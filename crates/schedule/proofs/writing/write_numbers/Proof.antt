@@ -1,14 +1,12 @@
 -- A start past the output leaves none; else the event writer is lent the rest (`put-in-rest`).
-use native.Mathlib.Omega.{arith}
 use borrow.Author.Needs.{needs}
-use Rattle.schedule.specs.Inside.Laying.{bytesOf}
 use Rattle.schedule.proofs.Parts.{all-some}
 use Rattle.schedule.proofs.Lays.{put-past, put-in-rest}
 use Rattle.schedule.proofs.writing.write_numbers.Statement.{statement}
 use Rattle.schedule.proofs.writing.write_numbers.Tie as tie
 
 returns : tie.Need-returns
-returns c = put-past _ _ _ (all-some (c .before .before .args .numbers)) (omega arith)
+returns c = search (needs, put-past, all-some)
 
 sub-put-event : tie.Need-sub-put-event
 sub-put-event c = search needs
@@ -26,10 +24,7 @@ same-length : tie.Need-same-length
 same-length c = search needs
 
 returns-2 : tie.Need-returns-2
-returns-2 c =
-    let p = c .before .before in
-    let a = p .before .before .before .before .args in
-    put-in-rest (bytesOf (a .numbers)) (a .out .now) (p .put-event .last .0) (a .at) (p .put-event .result) (p .put-event .ensures)
+returns-2 c = search (needs, put-in-rest)
 
 pub write-numbers-spec : {M : Type 1} → statement M
 write-numbers-spec =
