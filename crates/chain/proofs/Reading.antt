@@ -4,10 +4,11 @@ use mathlib.Core.Logic.{_≢_}
 use mathlib.Core.Bool.{Bool, true, false}
 use mathlib.Core.List.{List, [], _∷_, _++_, map}
 use Prim.Native.Nat.{ℕ, zero, suc, _+_, _-_, _≤_, _<_}
+use native.Mathlib.Nat.{zero-add, add-zero}
 use native.Mathlib.Numerals.{add-one}
 use native.Mathlib.Omega.{arith}
 use lib.ListN.{length, getD, set, take, drop, length-map, length-drop, length-set}
-use lib.Seq.{length-take-le, take-all, take-add, drop-drop, drop-cons, append-snoc, set-at}
+use lib.Seq.{length-take-le, take-all, take-add, drop-drop, getD-drop, paste-suc}
 use Rattle.record.specs.Record.{headNode}
 use Rattle.record.specs.declared.Node.{Node}
 use Rattle.table.specs.Words.{Memory, memory, addressAt, linkAt, rank, aboveAll}
@@ -80,12 +81,8 @@ rank-below addresses n inner small =
 one-word-more : (keys before : List ℕ) (read : ℕ) (x : ℕ) (xs : List ℕ) → read < length before → drop read keys ≡ x ∷ xs →
     set (take read keys ++ drop read before) read x ≡ take (read + 1) keys ++ drop (read + 1) before
 one-word-more keys before read x xs room e =
-    let long = below-length read keys x xs e in
-    let split : drop read before ≡ getD before read 0 ∷ drop (read + 1) before = rw (add-one, drop-cons before read 0) in
-    ap (λ r. set (take read keys ++ r) read x) split
-    ∙ set-at (take read keys) (getD before read 0) (drop (read + 1) before) x read (length-take-le read keys (omega arith))
-    ∙ sym (append-snoc (take read keys) x (drop (read + 1) before))
-    ∙ ap (λ r. r ++ drop (read + 1) before) (sym (take-one-more read keys x xs e))
+    let is : getD keys read 0 ≡ x = simp add-zero at (sym (getD-drop read keys 0 0) ∙ ap (λ l. getD l 0 0) e) in
+    rw (add-one, ← is) (simp zero-add at (paste-suc before 0 keys read 0 (omega arith) (below-length read keys x xs e)))
 
 module _ (m : Memory) (before buffer : List ℕ) (from : Node) (read : ℕ) (w : Walked m before buffer from read) where
   pub walked-on : (met : Met) (onto : Node) (word : ℕ) → met ≡ onwardFrom m from → met ≡ Next onto → read < length before
@@ -133,7 +130,7 @@ module _ (m : Memory) (before buffer : List ℕ) (from : Node) (read : ℕ) (w :
 
 -- ---- reading looks at no deleter
 
-pub read-no-deleters : (addresses links deleters : List ℕ) (count : ℕ) (buffer : List ℕ) →
+read-no-deleters : (addresses links deleters : List ℕ) (count : ℕ) (buffer : List ℕ) →
     readKeys (memory addresses links [] count) buffer ≡ readKeys (memory addresses links deleters count) buffer
 unfolding readKeys chainAddresses chain onwardFrom addressAt linkAt
 read-no-deleters addresses links deleters count buffer = rw (walk-no-deleters aboveAll addresses links deleters count headNode)

@@ -1,13 +1,13 @@
 -- Laws of the walk along the chain: what it meets after a node decides how it goes on, and it never runs out of steps. Rests on the tests alone.
 use mathlib.Core.Path.{_≡_, refl, sym, _∙_, ap, subst}
 use mathlib.Core.Logic.{_≢_}
-use mathlib.Core.Bool.{Bool, true, false, not, _&&_, false≢true}
+use mathlib.Core.Bool.{Bool, true, false, not, _&&_}
 use mathlib.Core.List.{List, [], _∷_}
 use Prim.Native.Nat.{ℕ, zero, suc, _≤_, _<_, _+_}
 use native.Mathlib.Omega.{arith}
 use lib.Dec.{ltb, eqb}
 use lib.ListN.{getD}
-use borrow.Author.Tests.{ltb-true, eqb-false, lt-ltb, le-ltb, eq-eqb, ne-eqb}
+use borrow.Author.Tests.{ltb-true, eqb-false, not-true, lt-ltb, le-ltb, eq-eqb, ne-eqb}
 use denote.Enum.Declared.{tagOf}
 use types.Run.{OneOf, miss}
 use Rattle.record.specs.Record.{headNode, address}
@@ -52,10 +52,6 @@ pub record GoesOn (m : Memory) (from onto : Node) : Type 0 where
   pub inner : onto .0 ≢ 1
   pub used : onto .0 < m .count
   pub above : rank (m .addresses) from < rank (m .addresses) onto
-
-not-true : (b : Bool) → not b ≡ true → b ≡ false
-not-true true e = absurd (false≢true e)
-not-true false e = refl
 
 -- a next node is met where all three tests tell so, and it is the target
 only-next : (onto n : Node) (tail used above : Bool) → metOf onto tail used above ≡ Next n → ((not tail && used && above) ≡ true) × (onto ≡ n)

@@ -100,7 +100,8 @@ pub fn chain_addresses(
     buffer: &mut [u32],
 ) -> Keys
     ensures { λ r. ⌜ left (now (buffer .exit)) r ≡
-        keysOf (sizes .nodes) (sizes .processes) (memory (now (addresses .entry)) (now (links .entry)) (now (deleters .entry)) (sizes .count)) (now (buffer .entry)) ⌝ }
+        keysOf (sizes .nodes) (sizes .processes) (memory (now (addresses .entry)) (now (links .entry)) (now (deleters .entry)) (sizes .count))
+        (now (buffer .entry)) ⌝ }
 {
     if words::tables_fit(addresses, links, deleters, sizes) {
         return read_chain(addresses, links, sizes.count, buffer);

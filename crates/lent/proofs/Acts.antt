@@ -1,136 +1,83 @@
 -- The call of `hand_back`, as one rule: whoever has the three lent tables calls it with a record, and has what it promises. Every walk that calls
 -- `hand_back` cites it, whatever else its context holds. All that it knows of `hand_back` is that it meets its contract.
-use Rattle.walks.proofs.Kit.{_≡_, ap, ℕ, [], _∷_, List, _++_, length, URA, Opd, Place, Body, seq, call, Val, WT, hasTy, Holds, only, SProp, ent}
-use Rattle.walks.proofs.Kit.{id⊢, Lft, Share, Memory, Routine, Heap, Calls, Loops, Env, Atoms, Fun, Lfts, Given, Item, Sq, Post, Go, runs, lands}
-use Rattle.walks.proofs.Kit.{Opds, raw, ⋆, _$_, _∵_, !, qed, move, join, fjoin, done, FmC, RattleType, Is, RefT, owned, nothing, Contract, Triple}
-use Rattle.walks.proofs.Kit.{Args, tripleOf}
-use Rattle.walks.proofs.Record.{R, vals, makes}
+use Rattle.walks.proofs.Kit.{_≡_, ℕ, [], _∷_, List, URA, Opd, Place, Body, seq, call, SProp, ent, id⊢, Memory, Routine, Heap, Calls, Loops, Env}
+use Rattle.walks.proofs.Kit.{Atoms, Fun, Given, Item, Sq, Post, Go, runs, lands, Opds, raw, ⋆, _$_, _∵_, !, qed, move, drop, FmC, Is, nothing}
+use Rattle.walks.proofs.Kit.{Contract, Triple}
+use Rattle.walks.proofs.Values.{ByValue, IsA, of-struct, of-enum, with-value}
+use Rattle.walks.proofs.Calls.{Met, calls-met}
+use Rattle.walks.proofs.Record.{record-values, R, vals}
 use denote.Struct.Laws as struct
-use denote.Enum.Laws as enum
 use Rattle.record.specs.declared.Record.{Record}
 use Rattle.record.specs.declared.Event.{Event}
-use Rattle.record.proofs.Event as event-type
+use Rattle.record.proofs.Event as event
 use Rattle.record.proofs.Event.Laws as event-laws
 use Rattle.words.specs.declared.Sizes.{Sizes}
 use Rattle.list.specs.Acting.{left, actOn}
-use Rattle.words.proofs.Sizes as sizes-type
+use Rattle.words.proofs.Sizes as sizes
 use Rattle.words.proofs.Sizes.Laws as sizes-laws
-use Rattle.lent.specs.declared.Said.{Said}
 use Rattle.lent.specs.declared.Handed.{Handed}
 use Rattle.lent.specs.Lent.{actedOf}
-use Rattle.lent.proofs.Said as said-type
+use Rattle.lent.proofs.Said as said
 use Rattle.lent.proofs.Said.Laws as said-laws
-use Rattle.lent.proofs.Handed as handed-type
+use Rattle.lent.proofs.Handed as handed
 use Rattle.lent.proofs.Handed.Laws as handed-laws
 use Rattle.lent.proofs.hand_back as callee
 use Rattle.lent.proofs.hand_back.Symbol.{name as #hand-back}
-use Rattle.lent.proofs.Tables.{tableOf, Lent, Last, passes-on}
+use Rattle.lent.proofs.Tables.{values-of-tables, LentTables, SameLengths, Lent, Last, last-words, asked}
 
--- the rows of the types that are handed over, and their machine values
-abbrev pub ER : RattleType
-ER = event-type.the-row
+-- what is given, what is handed back, and what is said in the end
+abbrev pub event-values : ByValue
+event-values = of-enum event.the-type event-laws.the-laws event-laws.the-plain tt
 
-abbrev pub event-vals : Event → List Val
-event-vals = enum.vals event-type.the-type event-laws.the-laws
+abbrev pub sizes-values : ByValue
+sizes-values = of-struct sizes.the-type sizes-laws.the-laws sizes-laws.the-plain
 
-abbrev pub event-val : Event → Val
-event-val = enum.val event-type.the-type event-laws.the-laws
+abbrev pub said-values : ByValue
+said-values = of-struct said.the-type said-laws.the-laws said-laws.the-plain
 
-abbrev pub SR : RattleType
-SR = sizes-type.the-row
+abbrev pub handed-values : ByValue
+handed-values = of-struct handed.the-type handed-laws.the-laws handed-laws.the-plain
 
-abbrev pub sizes-vals : Sizes → List Val
-sizes-vals = struct.vals sizes-type.the-type sizes-laws.the-laws
+-- the parts of what is handed back: the record advanced, and what is said
+pub advanced-is : (t : Handed) → IsA handed-values t → Is R (t .advanced) (vals (t .advanced))
+advanced-is t is = struct.owed handed.the-type handed-laws.the-laws t _ is .0
 
-abbrev pub sizes-val : Sizes → Val
-sizes-val = struct.val sizes-type.the-type sizes-laws.the-laws
-
-abbrev pub HR : RattleType
-HR = handed-type.the-row
-
-abbrev pub DR : RattleType
-DR = said-type.the-row
-
-abbrev pub said-vals : Said → List Val
-said-vals = struct.vals said-type.the-type said-laws.the-laws
-
-abbrev pub said-val : Said → Val
-said-val = struct.val said-type.the-type said-laws.the-laws
-
--- what is known of the parts of what is handed back: the record advanced, and what is said
-pub advanced-is : (t : Handed) (vs : List Val) → Is HR t vs → Is R (t .advanced) (vals (t .advanced))
-advanced-is t vs is = struct.owed handed-type.the-type handed-laws.the-laws t _ is .0
-
-pub said-is : (t : Handed) (vs : List Val) → Is HR t vs → Is DR (t .said) (said-vals (t .said))
-said-is t vs is = struct.owed handed-type.the-type handed-laws.the-laws t _ is .1 .0
-
-pub handed-tells : (t : Handed) (v : Val) → Is HR t (v ∷ []) → v ≡ struct.val handed-type.the-type handed-laws.the-laws t
-handed-tells t v is = ap only (struct.tells handed-type.the-type handed-laws.the-laws t _ is)
-
-module _ {M : Type 1} (𝓤 : URA M) (H : Heap 𝓤) (A : Atoms 𝓤) (W : Given 𝓤 H A) where
-  pub handed-typed : (t : Handed) (v : Val) → Is HR t (v ∷ []) → Holds (hasTy handed-laws.mir v) × WT v
-  handed-typed t v is = struct.lawful handed-type.the-type handed-laws.the-laws 𝓤 H A W .typed t _ is .0
-
-  pub said-typed : (d : Said) → Is DR d (said-vals d) → Holds (hasTy said-laws.mir (said-val d)) × WT (said-val d)
-  said-typed d is = struct.lawful said-type.the-type said-laws.the-laws 𝓤 H A W .typed d _ is .0
+pub said-is : (t : Handed) → IsA handed-values t → IsA said-values (t .said)
+said-is t is = struct.owed handed.the-type handed-laws.the-laws t _ is .1 .0
 
 module _ {M : Type 1} (𝓤 : URA M) (H : Heap 𝓤) (A : Atoms 𝓤) (at-mem : Memory → SProp 𝓤) (run : Routine → Fun 𝓤) where
   abbrev pub Acting : Contract 𝓤
-  Acting = tripleOf 𝓤 H A callee.signature (callee.spec 𝓤 H A at-mem run)
+  Acting = Met 𝓤 H A callee.ended (callee.clauses 𝓤 H A at-mem run)
 
-  module _ (W : Given 𝓤 H A) (κ₀ κ₁ κ₂ : Lft) (q₀ q₁ q₂ : Share) (xa xl xd : RefT (List ℕ)) (z : Sizes) (r : Record) (e : Event) where
-    abbrev κs : Lfts 3
-    κs = (κ₀, (κ₁, (κ₂, tt)))
-
-    abbrev args : Args callee.signature κs
-    args = (xa, (xl, (xd, (z, (r, (e, tt))))))
-
+  module _ (W : Given 𝓤 H A) (ts : LentTables) (z : Sizes) (r : Record) (e : Event) where
     abbrev to-act : Acting .Ghost
     to-act = (
       (
-        κs,
-        (q₀, (q₁, (q₂, tt))),
+        ts .κs,
+        ts .qs,
         tt,
-        args,
-        (
-          tableOf xa ∷ [],
-          (
-            tableOf xl ∷ [],
-            (
-              tableOf xd
-                  ∷ [],
-              (sizes-vals z, (vals r, (event-vals e, tt))),
-            ),
-          ),
-        ),
+        (ts .addresses, (ts .links, (ts .deleters, (z, (r, (e, tt)))))),
+        values-of-tables ts (sizes-values .val z ∷ [], (vals r, (event-values .val e ∷ [], tt))),
       ),
       tt,
     )
 
-    abbrev Asks : Item 𝓤
-    Asks = raw (Acting .pre to-act)
+    abbrev pub Acts-so : Handed → (addresses links deleters : List ℕ) → Type 0
+    Acts-so t addresses links deleters =
+        left addresses links deleters (actedOf (t .advanced) (t .said)) ≡ actOn (ts .addresses .now) (ts .links .now) (ts .deleters .now) z r e
 
-    abbrev pub Acts-so : (addresses links deleters : List ℕ) → Handed → Type 0
-    Acts-so addresses links deleters t = left addresses links deleters (actedOf (t .advanced) (t .said)) ≡ actOn (xa .now) (xl .now) (xd .now) z r e
-
-    asks : Is SR z (sizes-vals z) → Is R r (vals r) → Is ER e (event-vals e)
-        → ent 𝓤 (⋆ 𝓤 H A (Lent 𝓤 κ₀ κ₁ κ₂ q₀ q₁ q₂ xa xl xd [])) (Acting .pre to-act)
+    asks : IsA sizes-values z → Is R r (vals r) → IsA event-values e → ent 𝓤 (⋆ 𝓤 H A (Lent 𝓤 ts [])) (Acting .pre to-act)
     asks is-z is-r is-e =
-        qed W (Lent 𝓤 κ₀ κ₁ κ₂ q₀ q₁ q₂ xa xl xd []) ∵ nothing ! $ move ! (3 ∷ 0 ∷ []) $ join ! $ move ! (2 ∷ 0 ∷ []) $ join ! $
-        move ! (1 ∷ 0 ∷ []) $ join ! $
-        nothing ! $ owned ! ER (Is ER) (enum.makes event-type.the-type event-laws.the-plain 𝓤 H A) e _ is-e $ fjoin ! $
-        owned ! R (Is R) (makes 𝓤 H A) r _ is-r $ fjoin ! $
-        owned ! SR (Is SR) (struct.makes sizes-type.the-type sizes-laws.the-plain 𝓤 H A) z _ is-z $ fjoin ! $
-        move ! (4 ∷ 0 ∷ []) $ fjoin ! $ move ! (3 ∷ 0 ∷ []) $ fjoin ! $ move ! (2 ∷ 0 ∷ []) $ fjoin ! $ move ! (1 ∷ 0 ∷ []) $ join ! $ nothing ! $
-        move ! (1 ∷ 0 ∷ []) $ done !
+        qed W (Lent 𝓤 ts []) ∵ nothing ! $ with-value ! event-values e is-e $ with-value ! record-values r is-r $
+        with-value ! sizes-values z is-z $ nothing ! $ asked ! ts
 
     module _ {Γ : List (Item 𝓤)} {E : Env 𝓤 H} {C : Calls 𝓤 H} {Λ : Loops 𝓤 H} {xs : List Opd} {d : Place} {rest : Body} {q : Post 𝓤 H} where
-      pub acts : FmC 𝓤 H (W .laws) C → Triple 𝓤 (C #hand-back) Acting → Is SR z (sizes-vals z) → Is R r (vals r) → Is ER e (event-vals e)
-          → Opds Go W (Asks ∷ Γ) E xs (tableOf xa ∷ tableOf xl ∷ tableOf xd ∷ (sizes-vals z ++ vals r ++ event-vals e))
-          → ((v : Val) (t : Handed) (ads ls ds : List ℕ) → Acts-so ads ls ds t → length ads ≡ length (xa .now) → length ls ≡ length (xl .now)
-          → length ds ≡ length (xd .now) → Is HR t (v ∷ [])
-          → Sq W (Last 𝓤 κ₀ κ₁ κ₂ q₀ q₁ q₂ xa xl xd ads ls ds Γ) (lands C Λ E d v rest q))
-          → Sq W (Lent 𝓤 κ₀ κ₁ κ₂ q₀ q₁ q₂ xa xl xd Γ) (runs C Λ E (seq (call #hand-back xs d) rest) q)
+      pub acts : FmC 𝓤 H (W .laws) C → Triple 𝓤 (C #hand-back) Acting → IsA sizes-values z → Is R r (vals r) → IsA event-values e
+          → Opds Go W (raw (Acting .pre to-act) ∷ Γ) E xs (Acting .args to-act)
+          → ((t : Handed) (ads ls ds : List ℕ) → Acts-so t ads ls ds → SameLengths ts ads ls ds → IsA handed-values t
+          → Sq W (Last 𝓤 ts ads ls ds Γ) (lands C Λ E d (handed-values .val t) rest q))
+          → Sq W (Lent 𝓤 ts Γ) (runs C Λ E (seq (call #hand-back xs d) rest) q)
       acts fm known is-z is-r is-e os k =
-          passes-on 𝓤 κ₀ κ₁ κ₂ q₀ q₁ q₂ xa xl xd HR (λ t ads ls ds. Acts-so ads ls ds t) H A W
-          Acting to-act (asks is-z is-r is-e) (λ v. id⊢ 𝓤 _) fm known os k
+          calls-met 𝓤 H A callee.ended (callee.clauses 𝓤 H A at-mem run) W to-act (Lent 𝓤 ts []) (handed-values .val)
+          (λ t zs. Acts-so t (zs .0) (zs .1 .0) (zs .1 .1 .0)) (asks is-z is-r is-e) (handed-values .tells) (λ t zs. id⊢ 𝓤 _) fm known os
+          (λ t zs so is. last-words ! ts (λ same. move ! (3 ∷ []) $ drop ! $ move ! (3 ∷ []) $ k t (zs .0) (zs .1 .0) (zs .1 .1 .0) so same is))

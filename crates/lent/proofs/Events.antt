@@ -1,9 +1,8 @@
 -- An event in a lent row, from the list's event on one record: the row too short, the process past the row, and its record in the row.
-use mathlib.Core.Path.{_≡_, refl, sym, ap, _∙_}
-use mathlib.Core.List.{List, [], _∷_}
-use Prim.Native.Nat.{ℕ, zero, suc, _<_, _≤_}
-use native.Mathlib.Nat.{not-suc-le-zero, le-of-suc-le-suc}
-use lib.ListN.{length, set, getD}
+use mathlib.Core.Path.{_≡_, sym, ap, _∙_}
+use mathlib.Core.List.{List}
+use Prim.Native.Nat.{ℕ, _<_, _≤_}
+use lib.ListN.{length, set, getD, List·getD-eq-default}
 use lib.Seq.{set-out}
 use borrow.Author.Tests.{le-leb, lt-leb}
 use Rattle.record.specs.Record.{freshRecord}
@@ -22,12 +21,6 @@ use Rattle.lent.specs.Lent.{actedOf, leaves, actIn}
 -- what is said of an event, where the record is handed back
 abbrev saidOf : Acted → Said
 saidOf t = record { sizes = t .sizes; outcome = t .outcome }
-
--- past the row there is no record
-no-record : (row : List Record) (p : ℕ) (r : Record) → length row ≤ p → getD row p r ≡ r
-no-record [] p r l = refl
-no-record (x ∷ row) zero r l = absurd (not-suc-le-zero l)
-no-record (x ∷ row) (suc p) r l = no-record row p r (le-of-suc-le-suc l)
 
 module _ (a l d : List ℕ) (z : Sizes) (row : List Record) (e : Event) where
   abbrev p : ℕ
@@ -51,4 +44,4 @@ module _ (a l d : List ℕ) (z : Sizes) (row : List Record) (e : Event) where
         → leaves ads ls ds row (t .said) ≡ actIn a l d z row e
     past-row past so =
         ap (λ (rs : List Record). leaves ads ls ds rs (t .said)) (sym (set-out row p (t .advanced) past))
-        ∙ in-row (so ∙ ap (λ (r : Record). actOn a l d z r e) (sym (no-record row p freshRecord past)))
+        ∙ in-row (so ∙ ap (λ (r : Record). actOn a l d z r e) (sym (List·getD-eq-default row freshRecord past)))

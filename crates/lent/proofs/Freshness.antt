@@ -28,20 +28,8 @@ links-laid l (suc (suc n)) h =
 
 -- what the test of the tables tells, with the count of a fresh list
 module _ (a l d : List ℕ) (nodes processes : ℕ) (fits : Bool) (told : fits ≡ tablesFit nodes processes (memory a l d 2)) where
-  room : fits ≡ true → Room nodes (memory a l d 2)
+  pub room : fits ≡ true → Room nodes (memory a l d 2)
   room fit = room-of nodes processes (memory a l d 2) (sym told ∙ fit)
-
-  pub addresses-hold : fits ≡ true → nodes ≤ length a
-  addresses-hold fit = room fit .addresses
-
-  pub links-hold : fits ≡ true → nodes ≤ length l
-  links-hold fit = room fit .links
-
-  pub deleters-hold : fits ≡ true → nodes ≤ length d
-  deleters-hold fit = room fit .deleters
-
-  pub two-nodes : fits ≡ true → 2 ≤ nodes
-  two-nodes fit = room fit .most
 
   -- the words laid over tables that fit are those of a fresh list
   pub words-laid : (a′ l′ d′ : List ℕ) → fits ≡ true
@@ -59,8 +47,8 @@ module _ (a l d : List ℕ) (nodes processes : ℕ) (fits : Bool) (told : fits �
 
 -- which answer there is tells whether the tables fit
 answered : (fits : Bool) (x laid kept : TablesLeft) → x ≡ cond fits laid kept → x .answer ≡ cond fits (laid .answer) (kept .answer)
-answered true x laid kept e = ap (λ (t : TablesLeft). t .answer) e
-answered false x laid kept e = ap (λ (t : TablesLeft). t .answer) e
+answered true x laid kept e = λ j. e j .answer
+answered false x laid kept e = λ j. e j .answer
 
 answer-fresh : (fits : Bool) (sizes z : Sizes) → Fresh sizes ≡ cond fits (Fresh z) (Refused 7) → fits ≡ true
 answer-fresh true sizes z e = refl

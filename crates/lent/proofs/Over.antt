@@ -3,8 +3,9 @@ use mathlib.Core.Path.{_≡_, refl, sym, ap, _∙_}
 use Prim.Native.Nat.{ℕ, zero, suc, _+_, _-_, _<_, _≤_}
 use native.Mathlib.Nat.{not-suc-le-zero, le-of-suc-le-suc}
 use native.Mathlib.Numerals.{add-one}
+use native.Mathlib.Omega.{arith}
 use mathlib.Core.List.{List, [], _∷_}
-use lib.ListN.{length, set, replicate}
+use lib.ListN.{length, set, replicate, length-append, length-replicate, length-drop}
 use Rattle.record.specs.Over.{over}
 
 pub one-more-laid : {A : Type 0} (x : A) (ys : List A) (i : ℕ) → i < length ys → set (over (replicate i x) ys) i x ≡ over (replicate (i + 1) x) ys
@@ -16,6 +17,4 @@ one-more-laid x ys i l = next ys i l ∙ ap (λ (n : ℕ). over (replicate n x) 
     next (z ∷ zs) (suc j) l = ap (λ (r : List _). x ∷ r) (next zs j (le-of-suc-le-suc l))
 
 pub laid-length : {A : Type 0} (x : A) (ys : List A) (i : ℕ) → i ≤ length ys → length (over (replicate i x) ys) ≡ length ys
-laid-length x ys zero l = refl
-laid-length x [] (suc i) l = absurd (not-suc-le-zero l)
-laid-length x (y ∷ ys) (suc i) l = ap suc (laid-length x ys i (le-of-suc-le-suc l))
+laid-length x ys i l = simp (length-append, length-replicate, length-drop) (omega arith)

@@ -1,67 +1,138 @@
--- The three lent tables in a walk, and a call to which they are passed on for good, as one rule: whoever has the tables calls, and has what the callee
--- promises of their last words and of its answer. Every walk that passes the tables on cites it, whatever else its context holds.
-use denote.Signature.{Slot, plain}
-use base.Fml.{Fml, fsep, feq}
-use types.Kit.{mean}
-use Rattle.walks.proofs.Kit.{ℕ, _≡_, [], _∷_, List, length, URA, named, Opd, Place, Body, seq, call, Val, ent, Lft, Share, ftrue, flft, Heap, Calls}
-use Rattle.walks.proofs.Kit.{Loops, Env, Atoms, fact, Given, Item, Sq, Post, Go, runs, lands, Opds, ‵, raw, some, later, _⊛_, ⋆, _$_, !, move, drop}
-use Rattle.walks.proofs.Kit.{use1, split, join, pick, await, fsplit, feqL, FmC, RattleType, Is, shows, u32, RefT, sliceVal, MutSlice, finally}
-use Rattle.walks.proofs.Kit.{peeks, heard, Contract, Triple, calls-at}
-use mir.Syntax.{Name}
+-- The three lent tables in a walk: as parameters, as what a walk has of them, and the steps that walks over them take, whatever else there is.
+-- Rests on the kit of walks.
+use Rattle.walks.proofs.Kit.{Slot, AllWithin, plain, mutSliceOf, sep, Fml, fsep, feq, sem, Goal, Seq, Step, step, cut, prop, mean, ℕ, _≡_, [], _∷_}
+use Rattle.walks.proofs.Kit.{List, length, URA, named, Val, id⊢, emp, Lft, Lfts, Share, Shares, ftrue, flft, Heap, Atoms, Given, Item, ‵, _⊛_, _$_}
+use Rattle.walks.proofs.Kit.{move, split, join, fsplit, fsplit3, fjoin, feqL, done, nothing, u32, RefT, slice-vals, MutSlice, finally, yes}
+use Rattle.walks.proofs.Parameters.{Parameter, slice-passed-on}
+use Rattle.walks.proofs.Rows.{given-up}
 
 -- a table of words, as the slot of a signature
 abbrev pub words : {n : ℕ} → Slot n
 words = plain (λ _. u32)
 
-abbrev pub tableOf : RefT (List ℕ) → Val
-tableOf x = sliceVal (x .ptr) (length (x .now))
+-- the tables as a function's first parameters, passed on for good
+abbrev pub after-tables : (n : ℕ) {X : Type 2} (ok₀ : AllWithin n (0 ∷ [])) (ok₁ : AllWithin n (1 ∷ [])) (ok₂ : AllWithin n (2 ∷ [])) → X
+    → Parameter {n = n} (mutSliceOf (0 ∷ []) ok₀ words) yes
+    × (Parameter {n = n} (mutSliceOf (1 ∷ []) ok₁ words) yes × (Parameter {n = n} (mutSliceOf (2 ∷ []) ok₂ words) yes × X))
+after-tables n ok₀ ok₁ ok₂ others = (slice-passed-on 0 ok₀ words, (slice-passed-on 1 ok₁ words, (slice-passed-on 2 ok₂ words, others)))
 
-module _ {M : Type 1} (𝓤 : URA M) (κ₀ κ₁ κ₂ : Lft) (q₀ q₁ q₂ : Share) (xa xl xd : RefT (List ℕ)) where
-  -- their lifetimes
-  abbrev pub Tokens : Item 𝓤
-  Tokens = ‵ (flft κ₀ q₀) ⊛ ‵ (flft κ₁ q₁) ⊛ ‵ (flft κ₂ q₂) ⊛ ‵ ftrue
+-- the three: their lifetimes, a share of each, and the references
+pub record LentTables : Type 0 where
+  pub κs : Lfts 3
+  pub qs : Shares 3
+  pub addresses : RefT (List ℕ)
+  pub links : RefT (List ℕ)
+  pub deleters : RefT (List ℕ)
 
-  -- before Γ: the lifetimes one by one, then the addresses, the links and the deleters
+-- of a function's lifetimes, shares and arguments the first three
+abbrev pub lent-tables : {X Y Z : Type 0} → Lft × (Lft × (Lft × X)) → Share × (Share × (Share × Y))
+    → RefT (List ℕ) × (RefT (List ℕ) × (RefT (List ℕ) × Z)) → LentTables
+lent-tables κs qs a = record {
+  κs = (κs .0, (κs .1 .0, (κs .1 .1 .0, tt)));
+  qs = (qs .0, (qs .1 .0, (qs .1 .1 .0, tt)));
+  addresses = a .0;
+  links = a .1 .0;
+  deleters = a .1 .1 .0;
+}
+
+-- their machine values, then others
+abbrev pub values-of-tables : {X : Type 0} → LentTables → X → List Val × (List Val × (List Val × X))
+values-of-tables ts others = (slice-vals (ts .addresses), (slice-vals (ts .links), (slice-vals (ts .deleters), others)))
+
+-- of each table there are as many last words (ads, ls, ds) as there were words
+pub record SameLengths (ts : LentTables) (ads ls ds : List ℕ) : Type 0 where
+  pub addresses : length ads ≡ length (ts .addresses .now)
+  pub links : length ls ≡ length (ts .links .now)
+  pub deleters : length ds ≡ length (ts .deleters .now)
+
+-- what owns a table
+abbrev Own : ℕ → Lft → RefT (List ℕ) → Fml
+Own j κ x = MutSlice (named j) κ u32 .own x (slice-vals x)
+
+-- what a callee says of a table that was passed on to it
+abbrev lastly : RefT (List ℕ) → List ℕ → Fml
+lastly x ws = fsep (finally u32 (x .name) ws) (feq ℕ (length ws) (length (x .now)))
+
+module _ {M : Type 1} (𝓤 : URA M) (ts : LentTables) where
+  -- their lifetimes, then others
+  abbrev pub Tokens : Item 𝓤 → Item 𝓤
+  Tokens others = ‵ (flft (ts .κs .0) (ts .qs .0)) ⊛ ‵ (flft (ts .κs .1 .0) (ts .qs .1 .0)) ⊛ ‵ (flft (ts .κs .1 .1 .0) (ts .qs .1 .1 .0)) ⊛ others
+
+  -- what owns the tables, then others
+  abbrev Owned : Fml → Fml
+  Owned others =
+      fsep (Own 0 (ts .κs .0) (ts .addresses)) (fsep (Own 1 (ts .κs .1 .0) (ts .links)) (fsep (Own 2 (ts .κs .1 .1 .0) (ts .deleters)) others))
+
+  -- before Γ: the lifetimes one by one
+  abbrev Lifetimes : List (Item 𝓤) → List (Item 𝓤)
+  Lifetimes Γ = ‵ (flft (ts .κs .0) (ts .qs .0)) ∷ ‵ (flft (ts .κs .1 .0) (ts .qs .1 .0)) ∷ ‵ (flft (ts .κs .1 .1 .0) (ts .qs .1 .1 .0)) ∷ Γ
+
+  -- before Γ: these, then the addresses, the links and the deleters
   abbrev pub Lent : List (Item 𝓤) → List (Item 𝓤)
   Lent Γ =
-      ‵ (flft κ₀ q₀) ∷ ‵ (flft κ₁ q₁) ∷ ‵ (flft κ₂ q₂) ∷ ‵ (MutSlice (named 0) κ₀ u32 .own xa (tableOf xa ∷ []))
-      ∷ ‵ (MutSlice (named 1) κ₁ u32 .own xl (tableOf xl ∷ [])) ∷ ‵ (MutSlice (named 2) κ₂ u32 .own xd (tableOf xd ∷ [])) ∷ Γ
+      Lifetimes (‵ (Own 0 (ts .κs .0) (ts .addresses)) ∷ ‵ (Own 1 (ts .κs .1 .0) (ts .links)) ∷ ‵ (Own 2 (ts .κs .1 .1 .0) (ts .deleters)) ∷ Γ)
 
-  -- before Γ: the lifetimes, then the last words of the deleters, the links and the addresses
+  -- before Γ: the last words of the deleters, the links and the addresses
+  abbrev LastWords : (addresses links deleters : List ℕ) → List (Item 𝓤) → List (Item 𝓤)
+  LastWords addresses links deleters Γ =
+      ‵ (finally u32 (ts .deleters .name) deleters) ∷ ‵ (finally u32 (ts .links .name) links) ∷ ‵ (finally u32 (ts .addresses .name) addresses) ∷ Γ
+
+  -- before Γ: the lifetimes, then the last words
   abbrev pub Last : (addresses links deleters : List ℕ) → List (Item 𝓤) → List (Item 𝓤)
-  Last addresses links deleters Γ =
-      Tokens ∷ ‵ (finally u32 (xd .name) deleters) ∷ ‵ (finally u32 (xl .name) links) ∷ ‵ (finally u32 (xa .name) addresses) ∷ Γ
+  Last addresses links deleters Γ = Tokens (‵ ftrue) ∷ LastWords addresses links deleters Γ
 
-  -- what a callee gives: its answer, of the type T, the last words of the tables, and what it says of them. Of its three other parameters, which are
-  -- plain, nothing is had
-  module _ (T : RattleType) (Says : T .Denot → (addresses links deleters : List ℕ) → Type 0) where
-    abbrev Lists : Type 0
-    Lists = List ℕ × (List ℕ × (List ℕ × (Unit {0} × (Unit {0} × (Unit {0} × Unit {0})))))
+module _ {M : Type 1} {𝓤 : URA M} {H : Heap 𝓤} {A : Atoms 𝓤} {K : Type 0} {W : Given 𝓤 H A} where
+  module _ {Γ : List (Item 𝓤)} {G : Goal 𝓤 H} (t : K) (ts : LentTables) where
+    tokens-apart : {X : Item 𝓤} → Step K W (Lifetimes 𝓤 ts (X ∷ Γ)) G (Tokens 𝓤 ts X ∷ Γ) G
+    tokens-apart {X} = cut (Tokens 𝓤 ts X ∷ []) (Lifetimes 𝓤 ts (X ∷ [])) Γ (id⊢ 𝓤 _)
 
-    abbrev lastly : RefT (List ℕ) → List ℕ → Fml
-    lastly x ws = fsep (finally u32 (x .name) ws) (feq ℕ (length ws) (length (x .now)))
+    tokens-together : {X : Item 𝓤} → Step K W (Tokens 𝓤 ts X ∷ Γ) G (Lifetimes 𝓤 ts (X ∷ Γ)) G
+    tokens-together {X} = cut (Lifetimes 𝓤 ts (X ∷ [])) (Tokens 𝓤 ts X ∷ []) Γ (id⊢ 𝓤 _)
 
-    abbrev pub Gives : Val → Item 𝓤
-    Gives v = later (some (λ (t : T .Denot). (Tokens ⊛ ‵ (T .own t (v ∷ []))) ⊛ some (λ (zs : Lists).
-        ‵ (fsep (lastly xa (zs .0)) (fsep (lastly xl (zs .1 .0)) (fsep (lastly xd (zs .1 .1 .0)) (fsep ftrue (fsep ftrue (fsep ftrue ftrue))))))
-        ⊛ raw (fact 𝓤 (Says t (zs .0) (zs .1 .0) (zs .1 .1 .0))))))
+  module _ {Γ : List (Item 𝓤)} {G : Goal 𝓤 H} where
+    -- one lifetime more is had with those of the tables; and apart from them
+    pub token-in : K → (ts : LentTables) {κ : Lft} {q : Share}
+        → Step K W (Tokens 𝓤 ts (‵ (flft κ q) ⊛ ‵ ftrue) ∷ Γ) G (Tokens 𝓤 ts (‵ ftrue) ∷ ‵ (flft κ q) ∷ Γ) G
+    token-in t ts = step (λ s. tokens-apart t ts $ move t (4 ∷ 3 ∷ []) $ join t $ move t (1 ∷ 2 ∷ 3 ∷ []) $ tokens-together t ts $ s)
 
-    module _ (H : Heap 𝓤) (A : Atoms 𝓤) (W : Given 𝓤 H A) (c : Contract 𝓤)
-        (g : c .Ghost) {Γ : List (Item 𝓤)} {E : Env 𝓤 H} {C : Calls 𝓤 H} {Λ : Loops 𝓤 H}
-        {f : Name} {xs : List Opd} {d : Place} {after : Body} {q : Post 𝓤 H} where
-      pub passes-on : ent 𝓤 (⋆ 𝓤 H A (Lent [])) (c .pre g) → ((v : Val) → ent 𝓤 (c .post g v) (mean 𝓤 H A (Gives v)))
-          → FmC 𝓤 H (W .laws) C → Triple 𝓤 (C f) c → Opds Go W (raw (c .pre g) ∷ Γ) E xs (c .args g)
-          → ((v : Val) (t : T .Denot) (ads ls ds : List ℕ) → Says t ads ls ds → length ads ≡ length (xa .now) → length ls ≡ length (xl .now)
-          → length ds ≡ length (xd .now) → Is T t (v ∷ []) → Sq W (Last ads ls ds Γ) (lands C Λ E d v after q))
-          → Sq W (Lent Γ) (runs C Λ E (seq (call f xs d) after) q)
-      passes-on asks gives fm known os k =
-          move ! (4 ∷ 5 ∷ []) $ join ! $ move ! (4 ∷ 0 ∷ []) $ join ! $ move ! (3 ∷ 0 ∷ []) $ join ! $ move ! (2 ∷ 0 ∷ []) $ join ! $
-          move ! (1 ∷ 0 ∷ []) $ join ! $ use1 W (raw (c .pre g)) asks $ calls-at ! fm c known g os (λ v.
-          use1 W (Gives v) (gives v) $ await ! tt $ pick ! (λ t. split ! $ move ! (1 ∷ []) $ pick ! (λ zs. split ! $ move ! (1 ∷ []) $
-          heard ! (Says t (zs .0) (zs .1 .0) (zs .1 .1 .0)) (λ says.
-          -- table by table: its last words, and that there are as many as there were
-          fsplit ! $ fsplit ! $ move ! (1 ∷ []) $ feqL ! (λ len-a. move ! (1 ∷ []) $ fsplit ! $ fsplit ! $ move ! (1 ∷ []) $ feqL ! (λ len-l.
-          move ! (1 ∷ []) $ fsplit ! $ fsplit ! $ move ! (1 ∷ []) $ feqL ! (λ len-d. move ! (1 ∷ []) $ drop ! $
-          -- the answer
-          move ! (3 ∷ []) $ split ! $ move ! (1 ∷ []) $
-          peeks ! T (Is T) (shows 𝓤 H A T) t (v ∷ []) (λ is. drop ! $ k v t (zs .0) (zs .1 .0) (zs .1 .1 .0) says len-a len-l len-d is))))))))
+    pub token-out : K → (ts : LentTables) {κ : Lft} {q : Share}
+        → Step K W (‵ (flft κ q) ∷ Tokens 𝓤 ts (‵ ftrue) ∷ Γ) G (Tokens 𝓤 ts (‵ (flft κ q) ⊛ ‵ ftrue) ∷ Γ) G
+    token-out t ts = step (λ s.
+        tokens-apart t ts $ move t (3 ∷ []) $ split t $ move t (2 ∷ 3 ∷ 4 ∷ 1 ∷ []) $ tokens-together t ts $ move t (1 ∷ []) $ s)
+
+    -- on entry: the lifetimes and the tables, one by one, before the others
+    pub tables-apart : K → (ts : LentTables) {X : Item 𝓤} {P : Fml} → Step K W (Lent 𝓤 ts (X ∷ ‵ P ∷ Γ)) G (Tokens 𝓤 ts X ∷ ‵ (Owned 𝓤 ts P) ∷ Γ) G
+    tables-apart t ts = step (λ s.
+        tokens-apart t ts $ move t (4 ∷ []) $ fsplit3 t $ move t (2 ∷ []) $ fsplit t $ move t (4 ∷ 5 ∷ 6 ∷ 2 ∷ 3 ∷ 0 ∷ 7 ∷ 1 ∷ []) $ s)
+
+    -- where they were not touched, their last words are their words
+    pub untouched : K → (ts : LentTables)
+        → Step K W (Last 𝓤 ts (ts .addresses .now) (ts .links .now) (ts .deleters .now) Γ) G (Lent 𝓤 ts Γ) G
+    untouched t ts = step (λ s.
+        move t (3 ∷ []) $ given-up t (named 0) (ts .κs .0) u32 (ts .addresses) _ $
+        move t (4 ∷ []) $ given-up t (named 1) (ts .κs .1 .0) u32 (ts .links) _ $
+        move t (5 ∷ []) $ given-up t (named 2) (ts .κs .1 .1 .0) u32 (ts .deleters) _ $
+        nothing t $ move t (4 ∷ 5 ∷ 6 ∷ 0 ∷ []) $ tokens-together t ts $ s)
+
+    -- after a call to which they were passed on: their last words, as many as there were
+    pub last-words : K → (ts : LentTables) {addresses links deleters : List ℕ} {P : Fml}
+        → (SameLengths ts addresses links deleters → Seq K W (LastWords 𝓤 ts addresses links deleters (‵ P ∷ Γ)) G)
+        → Seq K W (‵ (fsep (lastly (ts .addresses) addresses) (fsep (lastly (ts .links) links) (fsep (lastly (ts .deleters) deleters) P))) ∷ Γ) G
+    last-words t ts k =
+        fsplit t $ fsplit t $ move t (1 ∷ []) $ feqL t (λ a. move t (1 ∷ []) $ fsplit t $ fsplit t $ move t (1 ∷ []) $ feqL t (λ l.
+        move t (1 ∷ []) $ fsplit t $ fsplit t $ move t (1 ∷ []) $ feqL t (λ d. move t (0 ∷ 2 ∷ 3 ∷ 1 ∷ []) $
+        k (record { addresses = a; links = l; deleters = d }))))
+
+    -- at exit: the last words, together with the others
+    pub last-together : K → (ts : LentTables) {addresses links deleters : List ℕ} {P : Fml}
+        → Step K W (‵ (fsep (finally u32 (ts .addresses .name) addresses)
+        (fsep (finally u32 (ts .links .name) links) (fsep (finally u32 (ts .deleters .name) deleters) P))) ∷ Γ) G
+        (‵ P ∷ LastWords 𝓤 ts addresses links deleters Γ) G
+    last-together t ts = step (λ s. move t (1 ∷ 0 ∷ []) $ fjoin t $ move t (1 ∷ 0 ∷ []) $ fjoin t $ move t (1 ∷ 0 ∷ []) $ fjoin t $ s)
+
+  -- what a callee asks that takes the tables first and requires nothing
+  pub asked : K → (ts : LentTables) {X : Item 𝓤} {P : Fml}
+      → Seq K W (X ∷ ‵ P ∷ Lent 𝓤 ts []) (prop (sep 𝓤 (sep 𝓤 (mean 𝓤 H A (Tokens 𝓤 ts X)) (sem 𝓤 H A (Owned 𝓤 ts P))) (emp 𝓤)))
+  asked t ts =
+      move t (2 ∷ 3 ∷ 4 ∷ 0 ∷ []) $ tokens-together t ts $ move t (4 ∷ 1 ∷ []) $ fjoin t $ move t (3 ∷ 0 ∷ []) $ fjoin t $
+      move t (2 ∷ 0 ∷ []) $ fjoin t $ move t (1 ∷ 0 ∷ []) $ join t $ nothing t $ move t (1 ∷ 0 ∷ []) $ done t

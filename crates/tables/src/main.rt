@@ -37,7 +37,9 @@ fn act_in_row(
     event: Event,
 ) -> Acted
     requires { ⌜ lent ≤ 64 ⌝ }
-    ensures { λ r. ⌜ (leaves (now (addresses .exit)) (now (links .exit)) (now (deleters .exit)) (take lent (r .records)) (r .said) ≡ actIn (now (addresses .entry)) (now (links .entry)) (now (deleters .entry)) sizes (take lent records) event) × (drop lent (r .records) ≡ drop lent records) ⌝ }
+    ensures { λ r. ⌜ (leaves (now (addresses .exit)) (now (links .exit)) (now (deleters .exit)) (take lent (r .records)) (r .said) ≡
+        actIn (now (addresses .entry)) (now (links .entry)) (now (deleters .entry)) sizes (take lent records) event)
+        × (drop lent (r .records) ≡ drop lent records) ⌝ }
 {
     let mut row = records;
     let said = lent::act_in(addresses, links, deleters, sizes, &mut row[..lent], event);

@@ -1,6 +1,9 @@
 pub mod Kit
-pub mod Record
 pub mod Locals
 pub mod Operands
+pub mod Values
+pub mod Record
+pub mod Calls
+pub mod Parameters
 pub mod Rows
 pub mod Fresh

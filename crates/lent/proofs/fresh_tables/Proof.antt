@@ -1,6 +1,6 @@
 -- Tables that fit are long enough, and the words laid are a fresh list's; where they do not, nothing is changed.
 use borrow.Author.Needs.{needs}
-use Rattle.lent.proofs.Freshness.{addresses-hold, links-hold, deleters-hold, two-nodes, words-laid, tables-refused}
+use Rattle.lent.proofs.Freshness.{room, words-laid, tables-refused}
 use Rattle.lent.proofs.fresh_tables.Statement.{statement}
 use Rattle.lent.proofs.fresh_tables.Tie as tie
 
@@ -9,18 +9,17 @@ tables-fit-requires c κs = search needs
 
 clear-requires : tie.Need-clear-requires
 clear-requires c κs =
-    let test = c .before in addresses-hold _ _ _ _ _ _ (test .before .tables-fit .ensures) (test .if1 .taken)
+    let test = c .before in room _ _ _ _ _ _ (test .before .tables-fit .ensures) (test .if1 .taken) .addresses
 
 fresh-links-requires : tie.Need-fresh-links-requires
 fresh-links-requires c κs =
     let test = c .before .before .before .before .before in
-    let told = test .before .tables-fit .ensures in
-    (two-nodes _ _ _ _ _ _ told (test .if1 .taken), links-hold _ _ _ _ _ _ told (test .if1 .taken))
+    let has = room _ _ _ _ _ _ (test .before .tables-fit .ensures) (test .if1 .taken) in (has .most, has .links)
 
 clear-requires-2 : tie.Need-clear-requires-2
 clear-requires-2 c κs =
     let test = c .before .before .before .before .before .before .before .before .before in
-    deleters-hold _ _ _ _ _ _ (test .before .tables-fit .ensures) (test .if1 .taken)
+    room _ _ _ _ _ _ (test .before .tables-fit .ensures) (test .if1 .taken) .deleters
 
 same-length : tie.Need-same-length
 same-length c = search needs

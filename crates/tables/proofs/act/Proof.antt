@@ -1,3 +1,4 @@
+-- The part of each table that is lent is as long as it says (`Lent`).
 use Rattle.tables.proofs.Lent.{lent-length}
 use borrow.Author.Needs.{needs}
 use Rattle.tables.proofs.act.Statement.{statement}

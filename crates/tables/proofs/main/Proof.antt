@@ -1,3 +1,4 @@
+-- What is put ends within the block, and no more of the input is lent than was read. The measure is how many turns are left.
 use Prim.Native.Nat.{_≤_, _-_}
 use lib.ListN.{length}
 use lib.Seq.{length-take-le}

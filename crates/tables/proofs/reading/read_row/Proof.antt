@@ -1,8 +1,7 @@
-use mathlib.Core.Path.{_∙_}
-use lib.ListN.{length-set}
-use mathlib.Core.Path.{_≡_}
+-- No more records are read than the array holds. The measure is how many are left.
+use mathlib.Core.Path.{_≡_, _∙_}
 use Prim.Native.Nat.{_≤_, _-_}
-use lib.ListN.{length}
+use lib.ListN.{length, length-set}
 use borrow.Author.Needs.{needs}
 use Rattle.tables.proofs.reading.read_row.Statement.{statement}
 use Rattle.tables.proofs.reading.read_row.Tie as tie

@@ -1,3 +1,4 @@
+-- No more words are read than the array holds. The measure is how many are left.
 use mathlib.Core.Path.{_≡_}
 use Prim.Native.Nat.{_≤_, _-_}
 use lib.ListN.{length}

@@ -1,3 +1,4 @@
+-- The part of the block that is written out is as long as it says.
 use mathlib.Core.Path.{sym}
 use lib.Seq.{length-take-le}
 use borrow.Author.Needs.{needs}

@@ -1,3 +1,4 @@
+-- Each byte has a place in the block (`room`). The measure is how many bytes are left.
 use mathlib.Core.Path.{_≡_}
 use Prim.Native.Nat.{_≤_, _-_}
 use lib.ListN.{length}

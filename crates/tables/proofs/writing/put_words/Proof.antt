@@ -1,3 +1,4 @@
+-- What is put ends within the block. The measure is how many words are left.
 use Prim.Native.Nat.{_≤_, _-_}
 use borrow.Author.Needs.{needs}
 use Rattle.tables.proofs.writing.put_words.Statement.{statement}
