@@ -2,7 +2,7 @@
 use Prim.Native.Nat.{ℕ, zero, suc, _+_, _<_, _≤_}
 use mathlib.Core.List.{List, [], _∷_, _++_, map}
 use mathlib.Core.Path.{_≡_, refl, ap, sym, _∙_}
-use mathlib.Core.Bool.{Bool, true, false, not, _&&_}
+use mathlib.Core.Bool.{Bool, true, false, not, _&&_, and-false}
 use native.Mathlib.Omega.{arith}
 use borrow.Author.Tests.{ltb-true}
 use lib.Dec.{ltb, eqb}
@@ -20,7 +20,8 @@ use Rattle.table.specs.Chain.{goesOn, walk, chain, chainAddresses}
 use Rattle.table.specs.Events.{State, Acted, Leaves, does, stored, recordIn, event, runs, outcomes}
 use Rattle.table.proofs.Tests.{if-eq, and-left, and-right}
 use Rattle.table.proofs.Meets.{step-meets, act-meets, event-meets}
-use Rattle.table.proofs.LawsSizes.{Agree, Covers, longer, longer-agrees, Holds, holds-stays, sizes-stay, longerState, beyond-untouched}
+use Rattle.table.proofs.Numbered.{Room}
+use Rattle.table.proofs.LawsSizes.{Agree, longer, longer-agrees, Holds, holds-stays, sizes-stay, longerState, beyond-untouched}
 use Rattle.text.specs.Text.{keysLine}
 use Rattle.run.specs.Output.{lines, stopLine, played}
 
@@ -87,10 +88,6 @@ module _ (a l d : List ℕ) (rs : List Record) where
 
 -- ---- the same walk
 
-and-false : (a : Bool) → (a && false) ≡ false
-and-false true = refl
-and-false false = refl
-
 module _ (m m′ : Memory) (agree : Agree m m′) where
   rank-agrees : (n : Node) → n .0 < m .count → rank (m .addresses) n ≡ rank (m′ .addresses) n
   unfolding rank
@@ -106,8 +103,8 @@ module _ (m m′ : Memory) (agree : Agree m m′) where
   onto-used : (n onto : Node) → goesOn m n onto ≡ true → onto .0 < m .count
   onto-used n onto e =
       ltb-true (onto .0) (m .count)
-      (and-right (not (eqb (onto .0) 1)) (ltb (onto .0) (m .count)) (and-left (not (eqb (onto .0) 1) && ltb (onto .0) (m .count)) (ltb (rank
-      (m .addresses) n) (rank (m .addresses) onto)) e))
+      (and-right (not (eqb (onto .0) 1)) (ltb (onto .0) (m .count))
+      (and-left (not (eqb (onto .0) 1) && ltb (onto .0) (m .count)) (ltb (rank (m .addresses) n) (rank (m .addresses) onto)) e))
 
   link-agrees : (n : Node) → n .0 < m .count → linkAt m n ≡ linkAt m′ n
   unfolding linkAt
@@ -151,8 +148,8 @@ played-longer a l d rs number σ es ended s =
     let t = runs-longer a l d rs es σ s in
     let h = t .1 .holds in
     let τ = runs σ es in
-    let covers : Covers (τ .memory) (τ .nodes) =
-    record { two = t .1 .within .0; count = t .1 .within .1; addresses = h .addresses; links = h .links; deleters = h .deleters } in
-    let keys = ap (λ (σ : State). chainAddresses (σ .memory)) (t .0) ∙ sym (chain-agrees (τ .memory) (longer (τ .memory) a l d) (longer-agrees
-    (τ .memory) (τ .nodes) covers a l d)) in
+    let room : Room (τ .nodes) (τ .memory) =
+    record { least = t .1 .within .0; most = t .1 .within .1; addresses = h .addresses; links = h .links; deleters = h .deleters } in
+    let agrees = longer-agrees (τ .memory) (τ .nodes) room a l d in
+    let keys = ap (λ (σ : State). chainAddresses (σ .memory)) (t .0) ∙ sym (chain-agrees (τ .memory) (longer (τ .memory) a l d) agrees) in
     λ i. lines number (outcomes-longer a l d rs es σ s i) ++ (stopLine (number + length es) ended ++ keysLine (keys i))

@@ -64,17 +64,15 @@ module _ {S : Type 0} (next : S → Next S) (P : S → Type 0) (rest : S → Lis
   came zero s block at h p = record { whole-is = refl; within = h; grown = omega arith; still = p }
   came (suc turns) s block at h p = by-next turns s block at h p (came turns) (ltb (length block - at) 64) (next s) refl
 
-  by-room : (turns : ℕ) (s : S) (block : List ℕ) (at : ℕ) → at ≤ length block → P s → (small : Bool) → small ≡ false
-      → (x : Next S) → next s ≡ x → (at < turn turns s block at small x .count) ⊎ (next s ≡ nothing)
-  by-room turns s block at h p true z x e = absurd (let y : _≡_ {A = ℕ} 0 1 = cc in omega arith)
-  by-room turns s block at h p false z (piece bytes t) e =
+  with-room : (turns : ℕ) (s : S) (block : List ℕ) (at : ℕ) → at ≤ length block → P s
+      → (x : Next S) → next s ≡ x → (at < turn turns s block at false x .count) ⊎ (next s ≡ nothing)
+  with-room turns s block at h p (piece bytes t) e =
       let q = g .on-piece s bytes t p e in
       inl (omega (arith, q .2, came turns t (laid bytes block at) (at + length bytes) (laid-length block at bytes h) (q .0) .grown))
-  by-room turns s block at h p false z nothing e = inr e
+  with-room turns s block at h p nothing e = inr e
 
   -- a block with room for a piece gets one, where there is one
   pub moves : (turns : ℕ) (s : S) (block : List ℕ) (at : ℕ) → at ≤ length block → P s → 64 ≤ length block - at
       → (at < fillFrom next (suc turns) s block at .count) ⊎ (next s ≡ nothing)
   unfolding fillFrom
-  moves turns s block at h p r =
-      by-room turns s block at h p (ltb (length block - at) 64) (le-ltb (length block - at) 64 r) (next s) refl
+  moves turns s block at h p r = rw (le-ltb (length block - at) 64 r) (with-room turns s block at h p (next s) refl)

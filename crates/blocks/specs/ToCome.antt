@@ -1,13 +1,12 @@
 -- What is still to come of a run's output, wherever the run stands, and what its blocks give one after the other. Rests on the run.
 use mathlib.Core.List.{List, [], _∷_, _++_, map}
 use Prim.Native.Nat.{ℕ, zero, suc, _+_}
-use lib.ListN.{length, take}
+use lib.ListN.{take}
 use Rattle.record.specs.declared.Outcome.the-variants.{Refused}
 use Rattle.table.specs.Words.{addressAt}
-use Rattle.table.specs.Chain.{walk, chainAddresses}
-use Rattle.table.specs.Events.{runs}
+use Rattle.table.specs.Chain.{walk}
 use Rattle.files.specs.Comes.{comes, ends}
-use Rattle.text.specs.Text.{line, keysLine, addressesText, newline}
+use Rattle.text.specs.Text.{line, addressesText, newline}
 use Rattle.run.specs.declared.Phase.the-variants.{Refusing, Acting, Walking, Over}
 use Rattle.run.specs.Output.{played}
 use Rattle.run.specs.Filling.{Stop}

@@ -5,11 +5,10 @@ use mathlib.Core.Bool.{true, false}
 use mathlib.Core.List.{List, _++_, append-assoc}
 use Prim.Native.Nat.{ℕ, _≤_}
 use native.Mathlib.Omega.{arith}
-use borrow.Author.Tests.{leb-true}
-use lib.Dec.{leb}
 use lib.ListN.{length}
 use Rattle.table.specs.Events.{sizesFit}
-use Rattle.table.proofs.Tests.{if, and-left, and-right}
+use Rattle.table.proofs.Tests.{if}
+use Rattle.table.proofs.Fitting.{limits-of}
 use Rattle.schedule.specs.declared.Header.{Header}
 use Rattle.schedule.specs.Numbers.{numberBytes, Read, got, stops, _then_, readNumber}
 use Rattle.schedule.specs.Encoding.{headerBytes}
@@ -21,11 +20,7 @@ use Rattle.files.proofs.Numbers.{number-read, number-tells, after-numbe
 
 -- sizes within the limits are numbers that fit
 sizes-fit-32 : (nodes processes : ℕ) → sizesFit nodes processes ≡ true → Fits32 nodes × Fits32 processes
-unfolding sizesFit
-sizes-fit-32 nodes processes e =
-    let few-nodes : leb nodes 4096 ≡ true = search (and-left, and-right) in
-    let few-processes : leb processes 64 ≡ true = search (and-left, and-right) in
-    (omega (arith, leb-true nodes 4096 few-nodes), omega (arith, leb-true processes 64 few-processes))
+sizes-fit-32 nodes processes e = let k = limits-of nodes processes e in (omega arith, omega arith)
 
 -- a header written is read, with what stands after it left
 pub header-read : (h : Header) (rest : List ℕ) → HeaderFits h → readHeader (headerBytes h ++ rest) ≡ got h rest

@@ -1,13 +1,13 @@
 -- An event judged: refusals 7, 1, 2 in this order, then what it does; and what follows of tables that fit. Rests on Events.
 use mathlib.Core.Path.{_≡_, refl, _∙_}
-use mathlib.Core.Bool.{Bool, true, false, _&&_}
+use mathlib.Core.Bool.{Bool, true, false}
 use mathlib.Core.List.{List}
 use mathlib.Core.Option.{none}
 use Prim.Native.Nat.{ℕ, zero, suc, _+_, _<_}
 use native.Mathlib.Omega.{arith}
-use lib.Dec.{leb, ltb, eqb}
-use lib.ListN.{length, set}
-use borrow.Author.Tests.{leb-true, ltb-true, eq-eqb, ne-eqb}
+use lib.Dec.{ltb, eqb}
+use lib.ListN.{set}
+use borrow.Author.Tests.{ltb-true, eq-eqb, ne-eqb}
 use Rattle.record.specs.Record.{tailNode, requested, wentDown, restarted, node, noNode, Inserts, Deletes, Finds}
 use Rattle.record.specs.Event.{processOf, outcomeOf, refusalIn}
 use Rattle.record.specs.declared.Process.{Process}
@@ -17,12 +17,12 @@ use Rattle.record.specs.declared.Event.{Event}
 use Rattle.record.specs.declared.Event.the-variants.{Insert, Delete, Find, Step, Stop, Restart}
 use Rattle.record.specs.declared.Outcome.the-variants.{Refused, Accepted}
 use Rattle.table.specs.Words.{Memory, memory, givenOut, linkWord}
-use Rattle.table.specs.Events.{refused, act, does, tablesFit, sizesFit, statusNeeded}
+use Rattle.table.specs.Events.{refused, act, does, tablesFit, statusNeeded}
 use Rattle.words.specs.declared.Sizes.{Sizes}
 use Rattle.list.specs.declared.Acted.{Acted}
 use Rattle.list.specs.Acting.{Left, left, leftOf, actOn, counted}
 use Rattle.list.specs.Parts.{answered, stepped, Within}
-use Rattle.table.proofs.Tests.{and-left, and-right}
+use Rattle.table.proofs.Fitting.{limits-of, sizes-of, room-of}
 
 -- where no test refuses, each holds
 none-refuses : (fits there ready : Bool) (refusal : ℕ) → refusal ≡ refusalIn fits there ready → refusal ≡ 0 →
@@ -41,42 +41,11 @@ is-refusal (suc n) some = refl
 -- what tables that fit hold
 module _ (addresses links deleters : List ℕ) (sizes : Sizes)
     (fits : tablesFit (sizes .nodes) (sizes .processes) (memory addresses links deleters (sizes .count)) ≡ true) where
-  abbrev nodes : ℕ
-  nodes = sizes .nodes
-
-  abbrev limits : Bool
-  limits = leb 2 nodes && leb nodes 4096 && leb 1 (sizes .processes)
-
-  abbrev two : Bool
-  two = limits && leb (sizes .processes) 64 && leb nodes (length addresses)
-
-  abbrev long : Bool
-  long = two && leb nodes (length links) && leb nodes (length deleters)
-
-  all-fit : (long && leb 2 (sizes .count) && leb (sizes .count) nodes) ≡ true
-  unfolding tablesFit sizesFit
-  all-fit = fits
-
-  all-long : long ≡ true
-  all-long = and-left long (leb 2 (sizes .count)) (and-left (long && leb 2 (sizes .count)) (leb (sizes .count) nodes) all-fit)
-
-  links-too : (two && leb nodes (length links)) ≡ true
-  links-too = and-left (two && leb nodes (length links)) (leb nodes (length deleters)) all-long
-
-  addresses-too : two ≡ true
-  addresses-too = and-left two (leb nodes (length links)) links-too
-
-  sizes-too : (limits && leb (sizes .processes) 64) ≡ true
-  sizes-too = and-left (limits && leb (sizes .processes) 64) (leb nodes (length addresses)) addresses-too
-
-  few-nodes : (leb 2 nodes && leb nodes 4096) ≡ true
-  few-nodes = and-left (leb 2 nodes && leb nodes 4096) (leb 1 (sizes .processes)) (and-left limits (leb (sizes .processes) 64) sizes-too)
-
   within : Within sizes
   within =
       record {
-        few = leb-true nodes 4096 (and-right (leb 2 nodes) (leb nodes 4096) few-nodes);
-        given = leb-true (sizes .count) nodes (and-right (long && leb 2 (sizes .count)) (leb (sizes .count) nodes) all-fit);
+        few = limits-of (sizes .nodes) (sizes .processes) (sizes-of (sizes .nodes) (sizes .processes) _ fits) .few;
+        given = room-of (sizes .nodes) (sizes .processes) _ fits .most;
       }
 
   few-processes : (p : Process) → ltb (p .0) (sizes .processes) ≡ true → p .0 < 64
@@ -84,7 +53,7 @@ module _ (addresses links deleters : List ℕ) (sizes : Sizes)
       omega (
         arith,
         ltb-true (p .0) (sizes .processes) there,
-        leb-true (sizes .processes) 64 (and-right limits (leb (sizes .processes) 64) sizes-too),
+        limits-of (sizes .nodes) (sizes .processes) (sizes-of (sizes .nodes) (sizes .processes) _ fits) .few-processes,
       )
 
 -- what the calls of `act` told: the tests of the tables, of the process and of the status, and the first refusal of the three

@@ -1,9 +1,9 @@
 -- A run printed on by one block: it is reached, and a block with room that got nothing had nothing to get. Rests on the blocks' laws.
 use mathlib.Core.Path.{_≡_, sym, ap, subst}
 use mathlib.Core.Logic.{⊎-elim}
-use mathlib.Core.Bool.{Bool, true, false, false≢true}
+use mathlib.Core.Bool.{true, false, false≢true}
 use mathlib.Core.List.{List, []}
-use Prim.Native.Nat.{ℕ, _≤_, _<_}
+use Prim.Native.Nat.{ℕ, _<_}
 use native.Mathlib.Omega.{arith}
 use lib.ListN.{length}
 use Rattle.run.specs.declared.Run.{Run}
@@ -14,17 +14,17 @@ use Rattle.blocks.proofs.Comes.{Numbered}
 use Rattle.blocks.proofs.Blocks.{falls-by, gets-on}
 use Rattle.printer.specs.Printing.{Reached, onward, Printed}
 
-module _ (file : List ℕ) (begins start w : World) (a l d block out : List ℕ) (run : Run) (count room : ℕ)
-    (begin : start ≡ begins) (filled : stop (world a l d run) out count ≡ fills file w block) (reached : Reached file start w) where
+module _ {file a l d out : List ℕ} {begins start : World} {run : Run} {count : ℕ} (w : World) (block : List ℕ) (begin : start ≡ begins)
+    (filled : stop (world a l d run) out count ≡ fills file w block) (reached : Reached file start w) where
   on : Reached file begins (world a l d run)
   on = subst (λ (s : World). Reached file s (world a l d run)) begin (onward block reached (sym (ap (λ (x : Stop World). x .state) filled)))
 
   -- a block that could not be written
-  pub stopped : Printed file begins room a l d false
+  pub stopped : {room : ℕ} → Printed file begins room a l d false
   stopped = record { run = run; reached = on; whole = λ e. absurd (false≢true e) }
 
   -- a block that got nothing
-  pub ended : Numbered file w → count ≡ 0 → length block ≡ room → Printed file begins room a l d true
+  pub ended : {room : ℕ} → Numbered file w → count ≡ 0 → length block ≡ room → Printed file begins room a l d true
   ended numbered none same =
       record {
         run = run;

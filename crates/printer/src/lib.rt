@@ -1,5 +1,4 @@
 // Prints a run: the blocks of its output, one after the other, to standard output. Rests on the run.
-ghost use mathlib.Core.Path.{_≡_};
 ghost use lib.ListN.{length};
 ghost use Rattle.run.specs.Pieces.{begins};
 ghost use Rattle.printer.specs.Printing.{Printed};

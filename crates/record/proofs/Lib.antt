@@ -1,2 +1,3 @@
 pub mod Conds
+pub mod Rest
 pub mod Unique

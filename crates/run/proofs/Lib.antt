@@ -1,4 +1,3 @@
 pub mod Fills
-pub mod Rooms
 pub mod Steps
 pub mod Unique

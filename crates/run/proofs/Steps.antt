@@ -12,7 +12,6 @@ use denote.Enum.Declared.{tagOf}
 use Rattle.record.specs.Record.{freshRecord, process}
 use Rattle.record.specs.Event.{processOf}
 use Rattle.record.specs.declared.Node.{Node}
-use Rattle.record.specs.declared.Address.{Address}
 use Rattle.record.specs.declared.Event.{Event}
 use Rattle.record.specs.declared.Outcome.the-variants as outcome
 use Rattle.table.specs.Words.{Memory, memory, linkAt, addressAt}
@@ -35,10 +34,11 @@ use Rattle.run.specs.declared.Phase.{Phase}
 use Rattle.run.specs.declared.Phase.the-variants.{Refusing, Acting, Walking, Over}
 use Rattle.run.specs.declared.Run.{Run}
 use Rattle.run.proofs.Phase as phase-type
-use Rattle.run.specs.Filling.{piece, nothing, stop, fillFrom}
-use Rattle.run.specs.Pieces.{World, world, runOf, memoryOf, tableOf, inPhase, nextNumber, wentOn, toWalk, eventNext, addressNext, nextPiece, refusing, startOf, begins}
+use Rattle.run.specs.Filling.{Next, piece, nothing, stop, fillFrom}
+use Rattle.run.specs.Pieces.{World, world, runOf, memoryOf, tableOf, inPhase, nextNumber, wentOn, toWalk}
+use Rattle.run.specs.Pieces.{eventNext, addressNext, nextPiece, fills, refusing, startOf, begins}
 use Rattle.run.specs.Parts.{Ready, slotOf, stoppedText, lastText}
-use Rattle.run.proofs.Fills.{full, at-end}
+use Rattle.run.proofs.Fills.{FillsTo, full, at-end}
 
 -- ---- an event by the place of its process's record in a row of 64
 
@@ -111,37 +111,42 @@ module _ (w : World) (acting : w .run .phase ≡ Acting) (row : length (w .run .
   leaves-is : event (tableOf w) e ≡ at (tableOf w) e p
   leaves-is = event-by-slot (tableOf w) e row p slot
 
-  goes-on : piece (line (w .run .number) (at (tableOf w) e p .outcome)) (wentOn w next (at (tableOf w) e p .after)) ≡ piece (line (w .run .number)
-      (x .answer .outcome)) after
+  goes-on : piece (line (w .run .number) (at (tableOf w) e p .outcome)) (wentOn w next (at (tableOf w) e p .after))
+      ≡ piece (line (w .run .number) (x .answer .outcome)) after
   unfolding actOn stored recordIn
   goes-on = rw (following, is)
 
-  pub acted-piece : (file : List ℕ) → eventAt file (w .run .cursor) ≡ read.Got e next → nextPiece file w ≡ piece (line (w .run .number) (x .answer .outcome)) after
+  pub acted-piece : (file : List ℕ) → eventAt file (w .run .cursor) ≡ read.Got e next
+      → nextPiece file w ≡ piece (line (w .run .number) (x .answer .outcome)) after
   acted-piece file h =
       acting-piece file w acting
       ∙ (got-piece file w e next h
       ∙ (ap (λ (y : Leaves). piece (line (w .run .number) (y .outcome)) (wentOn w next (y .after))) leaves-is ∙ goes-on))
 
 -- what follows the last event
-pub last-next : (file : List ℕ) (w : World) (r : EventRead) → eventAt file (w .run .cursor) ≡ r
-    → (tagOf event-read.the-type r ≡ 1) ⊎ (tagOf event-read.the-type r ≡ 2) → eventNext file w ≡ piece (lastText (w .run .number) r) (toWalk w)
+abbrev NotGot : EventRead → Type 0
+NotGot r = (tagOf event-read.the-type r ≡ 1) ⊎ (tagOf event-read.the-type r ≡ 2)
+
+pub last-next : (file : List ℕ) (w : World) (r : EventRead) → eventAt file (w .run .cursor) ≡ r → NotGot r
+    → eventNext file w ≡ piece (lastText (w .run .number) r) (toWalk w)
 unfolding eventNext lastText stoppedText
 last-next file w (read.Got e next) is h = absurd (⊎-elim (λ (p : 0 ≡ 1). omega arith) (λ (p : 0 ≡ 2). omega arith) h)
 last-next file w read.End is h = rw (is, eventNext)
 last-next file w (read.Refused n) is h = rw (is, eventNext)
 
-pub last-piece : (file : List ℕ) (w : World) (r : EventRead) → w .run .phase ≡ Acting → r ≡ eventAt file (w .run .cursor)
-    → (tagOf event-read.the-type r ≡ 1) ⊎ (tagOf event-read.the-type r ≡ 2) → nextPiece file w ≡ piece (lastText (w .run .number) r) (toWalk w)
+pub last-piece : (file : List ℕ) (w : World) (r : EventRead) → w .run .phase ≡ Acting → r ≡ eventAt file (w .run .cursor) → NotGot r
+    → nextPiece file w ≡ piece (lastText (w .run .number) r) (toWalk w)
 last-piece file w r acting is h = acting-piece file w acting ∙ last-next file w r (sym is) h
 
-pub last-some : (number : ℕ) (r : EventRead) → (tagOf event-read.the-type r ≡ 1) ⊎ (tagOf event-read.the-type r ≡ 2) → 1 ≤ length (lastText number r)
+pub last-some : (number : ℕ) (r : EventRead) → NotGot r → 1 ≤ length (lastText number r)
 unfolding lastText stoppedText
 last-some number (read.Got e next) h = absurd (⊎-elim (λ (p : 0 ≡ 1). omega arith) (λ (p : 0 ≡ 2). omega arith) h)
 last-some number read.End h = omega arith
 last-some number (read.Refused n) h = simp length-append (omega arith)
 
 -- the refusal of a header
-pub refusal-piece : (file : List ℕ) (w : World) (n : ℕ) → w .run .phase ≡ Refusing n → nextPiece file w ≡ piece (line 0 (outcome.Refused n)) (inPhase Over w)
+pub refusal-piece : (file : List ℕ) (w : World) (n : ℕ) → w .run .phase ≡ Refusing n
+    → nextPiece file w ≡ piece (line 0 (outcome.Refused n)) (inPhase Over w)
 unfolding nextPiece
 refusal-piece file w n e = rw e
 
@@ -149,38 +154,35 @@ pub over-nothing : (file : List ℕ) (w : World) → w .run .phase ≡ Over → 
 unfolding nextPiece
 over-nothing file w e = rw e
 
--- the walk
+-- ---- the walk
+
 pub walking-piece : (file : List ℕ) (w : World) (n : Node) (steps : ℕ) → w .run .phase ≡ Walking n steps → nextPiece file w ≡ addressNext w n steps
 unfolding nextPiece
 walking-piece file w n steps e = rw e
 
--- a walk that has steps left
-steps-left : (steps : ℕ) (x : Walked) → x ≡ cond (eqb (suc steps) 0) Ends x
-steps-left steps x = rw (ne-eqb (suc steps) 0 (λ z. omega arith))
+module _ (w : World) where
+  -- by what a step of it gave
+  abbrev pub gaveBy : (left : ℕ) → Walked → Next World
+  gaveBy left x =
+      elim x [
+        | Onto onto a ↦ piece (space ∷ decimal (a .0)) (inPhase (Walking onto left) w)
+        | Ends ↦ piece (newline ∷ []) (inPhase Over w)
+      ]
 
-address-next : (w : World) (n : Node) (steps : ℕ) (to : Node) (a : Address) → cond (eqb steps 0) Ends (walkedFrom (memoryOf w) n) ≡ Onto to a
-    → addressNext w n steps ≡ piece (space ∷ decimal (a .0)) (inPhase (Walking to (steps - 1)) w)
-unfolding addressNext
-address-next w n zero to a h = absurd (let z : _≡_ {A = ℕ} 0 1 = cc in omega arith)
-address-next w n (suc steps) to a h =
-    let d : steps ≡ suc steps - 1 = omega arith in
-    rw (steps-left steps (walkedFrom (memoryOf w) n) ∙ h, addressNext)
-    (ap (λ (k : ℕ). piece (space ∷ decimal (a .0)) (inPhase (Walking to k) w)) d)
+  address-next : (n : Node) (steps : ℕ) → addressNext w n steps ≡ gaveBy (steps - 1) (cond (eqb steps 0) Ends (walkedFrom (memoryOf w) n))
+  unfolding addressNext
+  address-next n zero = refl
+  address-next n (suc steps) =
+      let one-less : suc steps - 1 ≡ steps = omega arith in
+      rw (ne-eqb (suc steps) 0 (λ z. omega arith), one-less)
 
-newline-next : (w : World) (n : Node) (steps : ℕ) → cond (eqb steps 0) Ends (walkedFrom (memoryOf w) n) ≡ Ends
-    → addressNext w n steps ≡ piece (newline ∷ []) (inPhase Over w)
-unfolding addressNext
-newline-next w n zero h = refl
-newline-next w n (suc steps) h = rw (steps-left steps (walkedFrom (memoryOf w) n) ∙ h, addressNext)
-
-pub address-piece : (file : List ℕ) (w : World) (n : Node) (steps : ℕ) (to : Node) (a : Address) → w .run .phase ≡ Walking n steps
-    → cond (eqb steps 0) Ends (walkedFrom (memoryOf w) n) ≡ Onto to a
-    → nextPiece file w ≡ piece (space ∷ decimal (a .0)) (inPhase (Walking to (steps - 1)) w)
-address-piece file w n steps to a e h = walking-piece file w n steps e ∙ address-next w n steps to a h
-
-pub newline-piece : (file : List ℕ) (w : World) (n : Node) (steps : ℕ) → w .run .phase ≡ Walking n steps
-    → cond (eqb steps 0) Ends (walkedFrom (memoryOf w) n) ≡ Ends → nextPiece file w ≡ piece (newline ∷ []) (inPhase Over w)
-newline-piece file w n steps e h = walking-piece file w n steps e ∙ newline-next w n steps h
+  -- by the promise of `walk_within`, which looks at no deleter
+  pub walk-piece : (file : List ℕ) (n : Node) (steps left : ℕ) (x y : Walked) → w .run .phase ≡ Walking n steps
+      → x ≡ cond (eqb steps 0) Ends (walkedFrom (memory (w .addresses) (w .links) [] (w .run .sizes .count)) n) → left ≡ steps - 1 → x ≡ y
+      → nextPiece file w ≡ gaveBy left y
+  unfolding walkedFrom linkAt addressAt
+  walk-piece file n steps left x y walking is fewer e =
+      walking-piece file w n steps walking ∙ (address-next n steps ∙ (λ i. gaveBy (sym fewer i) ((sym is ∙ e) i)))
 
 -- ---- how a run begins
 
@@ -195,21 +197,23 @@ pub begin-refused : (file addresses links deleters : List ℕ) (number : ℕ) (r
 unfolding begins
 begin-refused file addresses links deleters number r e is = rw (e, begins, is)
 
--- no deleter is looked at by the walk
-pub no-deleter : (addresses links deleters : List ℕ) (count : ℕ) (n : Node)
-    → walkedFrom (memory addresses links [] count) n ≡ walkedFrom (memory addresses links deleters count) n
-unfolding walkedFrom linkAt addressAt
-no-deleter addresses links deleters count n = refl
+-- ---- where filling stands
+
+-- at the start
+pub from-start : (file : List ℕ) (w : World) (block : List ℕ) → FillsTo (nextPiece file) w block 0 (fills file w block)
+unfolding fills
+from-start file w block = record { turns = suc (length block); enough = omega arith; same = refl }
 
 -- where no line is to be put, a run that does not walk stops
-pub not-walking : (file : List ℕ) (w : World) (block : List ℕ) (at turns : ℕ)
-    → (tagOf phase-type.the-type (w .run .phase) ≡ 0) ⊎ ((tagOf phase-type.the-type (w .run .phase) ≡ 1) ⊎ (tagOf phase-type.the-type (w .run .phase) ≡ 3))
+abbrev NotWalking : Phase → Type 0
+NotWalking phase = let tag = tagOf phase-type.the-type phase in (tag ≡ 0) ⊎ ((tag ≡ 1) ⊎ (tag ≡ 3))
+
+pub not-walking : (file : List ℕ) (w : World) (block : List ℕ) (at turns : ℕ) → NotWalking (w .run .phase)
     → Ready (w .run .phase) (length block - at) → stop w block at ≡ fillFrom (nextPiece file) turns w block at
 not-walking file w block at turns tag ready = by (w .run .phase) refl tag ready
   where
-    by : (phase : Phase) → w .run .phase ≡ phase
-        → (tagOf phase-type.the-type phase ≡ 0) ⊎ ((tagOf phase-type.the-type phase ≡ 1) ⊎ (tagOf phase-type.the-type phase ≡ 3))
-        → Ready phase (length block - at) → stop w block at ≡ fillFrom (nextPiece file) turns w block at
+    by : (phase : Phase) → w .run .phase ≡ phase → NotWalking phase → Ready phase (length block - at)
+        → stop w block at ≡ fillFrom (nextPiece file) turns w block at
     by (Refusing n) e t r = full (nextPiece file) w block at turns r
     by Acting e t r = full (nextPiece file) w block at turns r
     by (Walking n steps) e t r =

@@ -62,25 +62,18 @@ fn fill_addresses(
     let mut left = steps;
     loop {
         if block.len() - at < 64 {
-            let walking = run.in_phase(Phase::Walking(here, left));
-            return Filled {
-                count: at,
-                run: walking,
-            };
+            let run = run.in_phase(Phase::Walking(here, left));
+            return Filled { count: at, run };
         }
         let walked = walk_within(addresses, links, count, here, left);
         let Walked::Onto(onto, address) = walked else {
-            let m = put_newline(&mut block[at..]);
-            let over = run.in_phase(Phase::Over);
-            return Filled {
-                count: at + m,
-                run: over,
-            };
+            let end = at + put_newline(&mut block[at..]);
+            let run = run.in_phase(Phase::Over);
+            return Filled { count: end, run };
         };
         here = onto;
         left = fewer(left);
-        let k = put_address(&mut block[at..], address);
-        at = at + k;
+        at = at + put_address(&mut block[at..], address);
     }
 }
 

@@ -4,14 +4,13 @@ use mathlib.Core.Bool.{Bool, true, false, cond}
 use mathlib.Core.List.{List, [], _∷_, _++_, append-nil}
 use mathlib.Core.Path.{_≡_, refl, ap, sym, _∙_}
 use native.Mathlib.Omega.{arith}
-use native.Mathlib.Numerals.{add-one}
-use native.Mathlib.Nat.{zero-add}
 use borrow.Rule.Slice.PartMut.{putMid}
 use borrow.Author.Tests.{le-leb, lt-leb}
 use lib.Dec.{leb}
-use lib.ListN.{length, take, drop, set, getD, length-drop, drop-of-length-le, take-append-drop}
-use lib.Seq.{take-all, take-length, length-take-le, paste-suc}
+use lib.ListN.{length, take, drop, length-drop, take-append-drop}
+use lib.Seq.{take-length, length-take-le}
 use Rattle.record.specs.declared.Event.{Event}
+use Rattle.record.proofs.Rest.{rest-is, rest-back}
 use Rattle.table.specs.Events.{sizesFit}
 use Rattle.table.proofs.Tests.{if-le}
 use Rattle.schedule.specs.declared.Header.{Header}
@@ -51,13 +50,6 @@ fitted-append (x ∷ a) b (old ∷ part) (suc at) n = ap (λ (l : List ℕ). x �
 
 -- ---- a part `&mut out[at..]` lent, and come back
 
-rest-is : (out : List ℕ) (at : ℕ) → take (length out - at) (drop at out) ≡ drop at out
-rest-is out at = take-all (length out - at) (drop at out) (omega (arith, length-drop at out))
-
-rest-back : (out new : List ℕ) (at : ℕ) → putMid at (length out - at) out new ≡ take at out ++ new
-rest-back out new at =
-    rw (drop-of-length-le (drop at out) {i = length out - at} (omega (arith, length-drop at out)), append-nil)
-
 -- bytes laid, then others in the rest
 pub fitted-then : (a b out mid new : List ℕ) (at : ℕ) → mid ≡ fitted a out → at ≡ min (length a) (length out)
     → new ≡ fitted b (take (length mid - at) (drop at mid))
@@ -75,12 +67,6 @@ module _ (x : Numbers) (out mid : List ℕ) (e : mid ≡ fitted (numberBytes (x 
       → putMid at (length mid - at) mid new ≡ fitted (tailBytes x) out
   three-laid new at is n f =
       rw (tail-of-three x is) (fitted-then (numberBytes (x .second)) (numberBytes (x .third)) out mid new at e n f)
-
--- ---- one byte after another
-
-pub byte-more : (out bytes : List ℕ) (i : ℕ) → i < length out → i < length bytes
-    → set (take i bytes ++ drop i out) i (getD bytes i 0) ≡ take (i + 1) bytes ++ drop (i + 1) out
-byte-more out bytes i h k = rw add-one (simp zero-add at (paste-suc out 0 bytes i 0 (omega arith) k))
 
 -- ---- all the bytes in the rest of the output, or none
 

@@ -6,10 +6,11 @@ use native.Mathlib.Omega.{arith}
 use native.Mathlib.Numerals.{add-one}
 use lib.ListN.{length, take, drop, set, getD, length-set, length-drop, drop-of-length-le}
 use lib.Seq.{drop-cons, take-length}
+use Rattle.record.proofs.Rest.{copy-more}
 use Rattle.schedule.specs.Numbers.{numberBytes}
 use Rattle.schedule.specs.Inside.Laying.{fitted}
 use Rattle.schedule.proofs.Sizes.{number-last, number-more, number-size}
-use Rattle.schedule.proofs.Lays.{fitted-whole, fitted-full, byte-more}
+use Rattle.schedule.proofs.Lays.{fitted-whole, fitted-full}
 
 -- of the bytes of a number so many stand in the output found, and those of the rest are to come
 pub record Putting (bytes found out : List ℕ) (rest at : ℕ) : Type 0 where
@@ -32,7 +33,7 @@ module _ (bytes found out : List ℕ) (rest at : ℕ) (here : at < length out) (
 
   stands : (b : ℕ) → getD bytes at 0 ≡ b → set out at b ≡ take (at + 1) bytes ++ drop (at + 1) found
   stands b e =
-      rw (p .so-far, ← e) (byte-more found bytes at (omega (arith, p .same-length)) (p .inside))
+      rw (p .so-far, ← e) (copy-more found bytes at (omega (arith, p .same-length)) (p .inside))
 
   pub one-put : 128 ≤ rest → rest < 4294967296 → Putting bytes found (set out at (128 + rest % 128)) (rest / 128) (at + 1)
   one-put h small =

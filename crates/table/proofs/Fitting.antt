@@ -1,7 +1,25 @@
--- Tables that fit, as inequalities and back. Rests on Tests and Numbered.
-use Rattle.table.proofs.Common.{List, [], _∷_, _≡_, Bool, true, ℕ, leb, length, leb-true, le-leb, Memory, sizesFit, tablesFit}
+-- Sizes within the limits and tables that fit, as inequalities and back. Rests on Tests and Numbered.
+use Rattle.table.proofs.Common.{List, [], _∷_, _≡_, Bool, true, ℕ, _≤_, leb, length, leb-true, le-leb, Memory, sizesFit, tablesFit}
 use Rattle.table.proofs.Tests.{each-true}
 use Rattle.table.proofs.Numbered.{Room}
+
+-- "Nodes: 2 to 4,096 .. Processes: 1 to 64"
+pub record Limits (nodes processes : ℕ) : Type 0 where
+  pub two : 2 ≤ nodes
+  pub few : nodes ≤ 4096
+  pub some : 1 ≤ processes
+  pub few-processes : processes ≤ 64
+
+pub limits-of : (nodes processes : ℕ) → sizesFit nodes processes ≡ true → Limits nodes processes
+unfolding sizesFit
+limits-of nodes processes h =
+    let c = each-true (leb 2 nodes) (leb nodes 4096 ∷ leb 1 processes ∷ leb processes 64 ∷ []) h in
+    record {
+      two = leb-true 2 nodes (c 0);
+      few = leb-true nodes 4096 (c 1);
+      some = leb-true 1 processes (c 2);
+      few-processes = leb-true processes 64 (c 3);
+    }
 
 module _ (nodes processes : ℕ) (m : Memory) where
   -- those after the sizes'

@@ -9,7 +9,7 @@ use native.Mathlib.Omega.{arith}
 use native.Mathlib.Decide.{ℕ-discrete}
 use lib.Dec.{leb, ltb, eqb}
 use lib.ListN.{length, getD, replicate, length-replicate}
-use borrow.Author.Tests.{leb-true, le-leb, lt-ltb, eq-eqb, ne-eqb, eqb-false}
+use borrow.Author.Tests.{le-leb, lt-ltb, eq-eqb, ne-eqb, eqb-false}
 use Rattle.record.specs.Record.{node, freshRecord}
 use Rattle.record.specs.declared.Node.{Node}
 use Rattle.record.specs.declared.Record.{Record}
@@ -20,7 +20,8 @@ use Rattle.table.specs.Chain.{Reach, here, next, OnChain, Held, follows,
 use Rattle.table.specs.Events.{State, recordIn, sizesFit, tablesFit, fresh, event, runs, outcomes}
 use Rattle.table.specs.History.{Set}
 use Rattle.table.specs.Demand3.{Quiet, at, out, IsHeld}
-use Rattle.table.proofs.Tests.{by-test, each-true}
+use Rattle.table.proofs.Fitting.{limits-of}
+use Rattle.table.proofs.Tests.{by-test}
 use Rattle.table.proofs.Reaching.{front}
 use Rattle.table.proofs.Numbered.{rankIn, rank-inner, rank-head}
 
@@ -36,8 +37,7 @@ module _ (nodes processes : ℕ) (fit : sizesFit nodes processes ≡ true) where
   m₀ = freshMemory nodes
 
   two : 2 ≤ nodes
-  unfolding sizesFit
-  two = leb-true 2 nodes (each-true (leb 2 nodes) (leb nodes 4096 ∷ leb 1 processes ∷ leb processes 64 ∷ []) fit 0)
+  two = limits-of nodes processes fit .two
 
   two-nodes : {x : ℕ} → Reach (follows (freshMemory nodes)) 0 x → (x ≡ 0) ⊎ (x ≡ 1)
   unfolding freshMemory linkAt

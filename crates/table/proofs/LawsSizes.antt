@@ -26,7 +26,7 @@ use Rattle.table.specs.Places.{swapLink, readDeleter, swapDeleter, write
 use Rattle.table.specs.Places.{p11, p12, p13, p14, p15, p16, p17, p18, p19, off}
 use Rattle.table.specs.Steps.{link, deleter, wordMet, accessOf, inRange, usable, allUsable, Turn, turn, turnIn}
 use Rattle.table.specs.Events.{Acted, acted, refused, stepOf, does, tablesFit, act, State, stateOf, recordIn, Leaves, stored, event}
-use Rattle.table.proofs.Numbered.{AsLong, as-long, written-as-long, given-as-long}
+use Rattle.table.proofs.Numbered.{Room, AsLong, as-long, written-as-long, given-as-long}
 use Rattle.table.proofs.Meets.{step-meets, insert-meets, act-judged, act-meets, refused-anywhere, event-meets}
 use Rattle.table.proofs.Fitting.{room-of}
 use Rattle.table.proofs.Tests.{by-test, if, and-left, and-right}
@@ -182,23 +182,15 @@ step-sees-nodes-in-use m m′ same p r = at-place m m′ same p r (placeOf (r .l
 abbrev pub longer : Memory → List ℕ → List ℕ → List ℕ → Memory
 longer m a l d = memory (m .addresses ++ a) (m .links ++ l) (m .deleters ++ d) (m .count)
 
--- every node in use has its words
-pub record Covers (m : Memory) (nodes : ℕ) : Type 0 where
-  pub two : 2 ≤ m .count
-  pub count : m .count ≤ nodes
-  pub addresses : nodes ≤ length (m .addresses)
-  pub links : nodes ≤ length (m .links)
-  pub deleters : nodes ≤ length (m .deleters)
-
-module _ (m : Memory) (nodes : ℕ) (covers : Covers m nodes) (a l d : List ℕ) where
+module _ (m : Memory) (nodes : ℕ) (room : Room nodes m) (a l d : List ℕ) where
   pub longer-agrees : Agree m (longer m a l d)
   longer-agrees =
       record {
-        two = covers .two;
+        two = room .least;
         counts = refl;
-        addresses = λ n h. sym (List·getD-append (m .addresses) a 0 n (omega (arith, covers .count, covers .addresses)));
-        links = λ n h. sym (List·getD-append (m .links) l 0 n (omega (arith, covers .count, covers .links)));
-        deleters = λ n h. sym (List·getD-append (m .deleters) d 0 n (omega (arith, covers .count, covers .deleters)));
+        addresses = λ n h. sym (List·getD-append (m .addresses) a 0 n (omega (arith, room .most, room .addresses)));
+        links = λ n h. sym (List·getD-append (m .links) l 0 n (omega (arith, room .most, room .links)));
+        deleters = λ n h. sym (List·getD-append (m .deleters) d 0 n (omega (arith, room .most, room .deleters)));
       }
 
   -- a write to a node in use
@@ -210,19 +202,19 @@ module _ (m : Memory) (nodes : ℕ) (covers : Covers m nodes) (a l d : List ℕ)
   written-longer : (w : Write) → InUse w → written w (longer m a l d) ≡ longer (written w m) a l d
   unfolding written InUse
   written-longer nothing h = refl
-  written-longer (linkIs n word) h = rw (set-append-left (m .links) l (n .0) word (omega (arith, covers .count, covers .links)))
-  written-longer (deleterIs n word) h = rw (set-append-left (m .deleters) d (n .0) word (omega (arith, covers .count, covers .deleters)))
+  written-longer (linkIs n word) h = rw (set-append-left (m .links) l (n .0) word (omega (arith, room .most, room .links)))
+  written-longer (deleterIs n word) h = rw (set-append-left (m .deleters) d (n .0) word (omega (arith, room .most, room .deleters)))
 
   row-writes-in-use : (p : Process) (r : Record) (x : Row) (w : ℕ) → allUsable (inUse m) r (accessOf p r x .uses) ≡ true
       → InUse (accessOf p r x .writes w)
   unfolding InUse
   row-writes-in-use p r (readLink f follows) w e = tt
-  row-writes-in-use p r (writeLink f new after) w e = field-in-use m r (covers .two) f (and-left (usable (inUse m) r f) _ e)
+  row-writes-in-use p r (writeLink f new after) w e = field-in-use m r (room .least) f (and-left (usable (inUse m) r f) _ e)
   row-writes-in-use p r (swapLink f old new done lost) w e =
-      if InUse (eqb w (linkOf r old)) (λ done. field-in-use m r (covers .two) f (and-left (usable (inUse m) r f) _ e)) (λ lost. tt)
+      if InUse (eqb w (linkOf r old)) (λ done. field-in-use m r (room .least) f (and-left (usable (inUse m) r f) _ e)) (λ lost. tt)
   row-writes-in-use p r (readDeleter f follows) w e = tt
   row-writes-in-use p r (swapDeleter f after) w e =
-      if InUse (eqb w noDeleter) (λ done. field-in-use m r (covers .two) f (and-left (usable (inUse m) r f) _ e)) (λ lost. tt)
+      if InUse (eqb w noDeleter) (λ done. field-in-use m r (room .least) f (and-left (usable (inUse m) r f) _ e)) (λ lost. tt)
   row-writes-in-use p r (writeNode f after) w e = tt
   row-writes-in-use p r (ownRecord after) w e = tt
   row-writes-in-use p r (handOut answer after) w e = tt
@@ -255,15 +247,15 @@ module _ (m : Memory) (nodes : ℕ) (covers : Covers m nodes) (a l d : List ℕ)
   unfolding givenOut
   given-longer x h =
       rw (
-        set-append-left (m .addresses) a (m .count) (x .0) (omega (arith, covers .addresses)),
-        set-append-left (m .links) l (m .count) 2 (omega (arith, covers .links)),
-        set-append-left (m .deleters) d (m .count) 0 (omega (arith, covers .deleters)),
+        set-append-left (m .addresses) a (m .count) (x .0) (omega (arith, room .addresses)),
+        set-append-left (m .links) l (m .count) 2 (omega (arith, room .links)),
+        set-append-left (m .deleters) d (m .count) 0 (omega (arith, room .deleters)),
       )
 
   insert-longer : (r : Record) (p : Process) (x : Address) → does nodes (longer m a l d) r (Insert p x) ≡ longerActed (does nodes m r (Insert p x))
   unfolding does
   insert-longer r p x = by-test (eqb (m .count) nodes) (λ e. rw e)
-      (λ e. let h : m .count < nodes = omega (arith, covers .count, eqb-false (m .count) nodes e) in
+      (λ e. let h : m .count < nodes = omega (arith, room .most, eqb-false (m .count) nodes e) in
       rw e (ap (λ k. acted k (requested 0 Inserts x (nextNode m)) Accepted) (given-longer x h)))
 
   pub does-longer : (r : Record) (e : Event) → does nodes (longer m a l d) r e ≡ longerActed (does nodes m r e)
@@ -297,10 +289,6 @@ module _ (a l d : List ℕ) where
     unfolding tablesFit
     fit-longer = rw (long (m .addresses) a addresses, long (m .links) l links, long (m .deleters) d deleters)
 
-    fit-covers : tablesFit nodes processes m ≡ true → Covers m nodes
-    fit-covers e = let room = room-of nodes processes m e in
-        record { two = room .least; count = room .most; addresses = addresses; links = links; deleters = deleters }
-
     act-longer : (r : Record) (e : Event) → act nodes processes (longer m a l d) r e ≡ more (act nodes processes m r e)
     unfolding act refusalIn
     act-longer r e =
@@ -308,7 +296,7 @@ module _ (a l d : List ℕ) where
         (λ unfit. rw (fit-longer, unfit))
         (λ fit beyond. rw (fit-longer, fit, beyond))
         (λ fit there other. rw (fit-longer, fit, there, other))
-        (λ fit there ready. rw (fit-longer, fit, there, ready) (does-longer m nodes (fit-covers fit) a l d r e))
+        (λ fit there ready. rw (fit-longer, fit, there, ready) (does-longer m nodes (room-of nodes processes m fit) a l d r e))
 
   -- the same state with more words and records after its tables
   abbrev pub longerState : List Record → State → State

@@ -41,8 +41,7 @@ decimal-more n h s =
 
 -- how many digits
 length-more : (n : ℕ) → 10 ≤ n → n < 4294967296 → length (decimal n) ≡ suc (length (decimal (n / 10)))
-length-more n h s =
-    ap length (decimal-more n h s) ∙ (length-append (decimal (n / 10)) ((48 + n % 10) ∷ []) ∙ add-one (length (decimal (n / 10))))
+length-more n h s = rw (decimal-more n h s, length-append, add-one)
 
 pub places-one : (n : ℕ) → n < 10 → 1 ≡ length (decimal n)
 places-one n h = sym (ap length (decimal-one n h))
@@ -55,16 +54,12 @@ places-more (suc k) n s l h =
 -- as many of its last digits as it has are the number
 last-one : (n : ℕ) → n < 10 → decimal n ≡ lastDigits (length (decimal n)) n
 unfolding lastDigits
-last-one n h =
-    let e : n ≡ n % 10 = omega arith in
-    decimal-one n h ∙ (ap (λ (m : ℕ). (48 + m) ∷ []) e ∙ ap (λ (m : ℕ). lastDigits m n) (places-one n h))
+last-one n h = let e : n % 10 ≡ n = omega arith in rw (decimal-one n h, e)
 
 last-more : (n : ℕ) → 10 ≤ n → n < 4294967296 → decimal (n / 10) ≡ lastDigits (length (decimal (n / 10))) (n / 10)
     → decimal n ≡ lastDigits (length (decimal n)) n
 unfolding lastDigits
-last-more n h s e =
-    decimal-more n h s
-    ∙ (ap (λ (l : List ℕ). l ++ ((48 + n % 10) ∷ [])) e ∙ ap (λ (m : ℕ). lastDigits m n) (sym (length-more n h s)))
+last-more n h s e = rw (length-more n h s, decimal-more n h s) (ap (λ (l : List ℕ). l ++ ((48 + n % 10) ∷ [])) e)
 
 -- from a number without its last digit to the number
 module _ (P : ℕ → Type 0) (one : (n : ℕ) → n < 10 → P n) (more : (n : ℕ) → 10 ≤ n → n < 4294967296 → P (n / 10) → P n) where
@@ -82,10 +77,10 @@ module _ (P : ℕ → Type 0) (one : (n : ℕ) → n < 10 → P n) (more : (n : 
 pub decimal-is-last : (n : ℕ) → n < 4294967296 → decimal n ≡ lastDigits (length (decimal n)) n
 decimal-is-last = by-digits (λ (n : ℕ). decimal n ≡ lastDigits (length (decimal n)) n) last-one last-more
 
--- a number is below the power of ten that has a digit more
+-- a number is below the power of ten that has a digit more than it
 below-one : (n : ℕ) → n < 10 → n < tens (length (decimal n))
 unfolding tens
-below-one n h = rw (sym (places-one n h)) (omega arith)
+below-one n h = rw (decimal-one n h) (omega arith)
 
 below-more : (n : ℕ) → 10 ≤ n → n < 4294967296 → n / 10 < tens (length (decimal (n / 10))) → n < tens (length (decimal n))
 unfolding tens
@@ -94,12 +89,12 @@ below-more n h s e = rw (length-more n h s) (omega (arith, e))
 decimal-below : (n : ℕ) → n < 4294967296 → n < tens (length (decimal n))
 decimal-below = by-digits (λ (n : ℕ). n < tens (length (decimal n))) below-one below-more
 
--- with zeros after it, a number has the same first digits, and as many more
 pub length-last : (k n : ℕ) → length (lastDigits k n) ≡ k
 unfolding lastDigits
 length-last zero n = refl
 length-last (suc k) n = simp length-append (omega (arith, length-last k (n / 10)))
 
+-- with zeros after it, a number has the same first digits, and as many more
 lifted-below : (j k n : ℕ) → n < tens k → n * tens j < tens (j + k)
 unfolding tens
 lifted-below zero k n h = rw (zero-add, mul-one) h
@@ -117,18 +112,15 @@ lifted (suc j) k n =
 
 -- a number of at most eight digits made one of eight
 module _ (k n m : ℕ) (s : n < 4294967296) (c : k ≡ length (decimal n)) (h : k ≤ 8) (e : m ≡ tens (8 - k)) where
-  all : 8 - k + k ≡ 8
-  all = omega arith
+  eight-in-all : 8 - k + k ≡ 8
+  eight-in-all = omega arith
 
   pub eight-fits : n * m < 100000000
   unfolding tens
-  eight-fits = rw e (rw all at (lifted-below (8 - k) k n (rw c (decimal-below n s))))
+  eight-fits = rw e (rw eight-in-all at (lifted-below (8 - k) k n (rw c (decimal-below n s))))
 
   pub eight-begins : take k (lastDigits 8 (n * m)) ≡ decimal n
-  eight-begins =
-      ap (λ (i : ℕ). take k (lastDigits i (n * m))) (sym all)
-      ∙ (ap (λ (t : ℕ). take k (lastDigits (8 - k + k) (n * t))) e
-      ∙ (lifted (8 - k) k n ∙ (ap (λ (i : ℕ). lastDigits i n) c ∙ sym (decimal-is-last n s))))
+  eight-begins = rw (e, decimal-is-last n s, ← c) (rw eight-in-all at (lifted (8 - k) k n))
 
 length-cond : (b : Bool) (x y : List ℕ) (least most : ℕ) → (least ≤ length x) × (length x ≤ most) → (least ≤ length y) × (length y ≤ most)
     → (least ≤ length (cond b x y)) × (length (cond b x y) ≤ most)

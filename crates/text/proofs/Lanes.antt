@@ -1,63 +1,60 @@
--- Eight digits in one word, all lanes shared out at once: the quotients that `pairs` and `spelt` take, lane by lane. Rests on Digits.
-use Prim.Native.Nat.{ℕ, _+_, _*_, _-_, _/_, _%_, _<_, _≤_}
-use mathlib.Core.List.{[], _∷_}
-use mathlib.Core.Path.{_≡_, _∙_}
+-- Eight digits in one word, several numbers at a time: what the products of `pairs` and `spelt` do. Rests on Digits.
+--
+-- A word holds a row of numbers, each in a lane of its own, the first lowest. Each number x of the row is split by b, which is 100 in `pairs` and
+-- 10 in `spelt`, into x / b and x % b side by side, w apart; and all of the row at once:
+-- * x / b is x * m / 2^k, where m is 2^k / b rounded up: 10486 for 2^20 / 100 and x below 10000, 103 for 2^10 / 10 and x below 100. So one product
+--   and one division share out the whole word. What the lanes above add to a lane is a multiple of 128, or of 16, which is more than any x / b:
+--   a remainder takes it off again.
+-- * x / b + w * (x % b) is w * x - (w * b - 1) * (x / b), since x % b is x - b * (x / b): one more product, and one subtraction.
+use Prim.Native.Nat.{ℕ, zero, suc, _+_, _*_, _/_, _%_, _<_}
+use mathlib.Core.List.{List, [], _∷_}
+use mathlib.Core.Path.{_≡_, refl, _∙_}
 use native.Mathlib.Omega.{arith}
+use native.Mathlib.Nat.{div-div-eq-div-mul}
+use lib.ListN.{length}
 use Rattle.text.specs.Digits.{lanes, pairsOf, word, lastDigits}
 
--- what is left of a sum
-pub left-is : (x y p : ℕ) → x ≡ y + p → x - y ≡ p
-left-is x y p e = omega arith
+-- ---- two numbers of four digits, by 100
 
-pub left-some : (x y p : ℕ) → x ≡ y + p → y ≤ x
-left-some x y p e = omega arith
+-- the halves of eight digits
+pub record Halves (first second : ℕ) : Type 0 where
+  pub first-few : first < 10000
+  pub second-few : second < 10000
 
--- ---- two numbers below 10000, by 100
+pub halves : (n : ℕ) → n < 100000000 → Halves (n / 10000) (n % 10000)
+halves n s = record { first-few = omega arith; second-few = omega arith }
 
-abbrev fours : ℕ → ℕ
-fours n = n / 10000 + n % 10000 * 4294967296
+-- both in one word, and a hundredth of it
+abbrev fours : (first second : ℕ) → ℕ
+fours first second = first + second * 4294967296
 
-abbrev hundredths : ℕ → ℕ
-hundredths n = fours n * 10486 / 1048576
+abbrev hundredth : (first second : ℕ) → ℕ
+hundredth first second = fours first second * 10486 / 1048576
 
-high-share : (a l : ℕ) → a < 100 → l < 10000 → (a + 42950656 * l) / 4294967296 ≡ l / 100
-high-share a l g h = omega arith
+module _ {first second : ℕ} (q : Halves first second) where
+  hundredth-is : hundredth first second ≡ first / 100 + 42950656 * second
+  hundredth-is = omega arith
 
-less-hundreds : (a b c d : ℕ)
-    → (100 * a + b + (100 * c + d) * 4294967296) * 65536 ≡ (a + c * 4294967296) * 6553599 + lanes a b c d
-less-hundreds a b c d = omega arith
+  pub first-hundreds : hundredth first second % 128 ≡ first / 100
+  first-hundreds = rw hundredth-is (omega arith)
 
-module _ (n : ℕ) (s : n < 100000000) where
-  hundredths-are : hundredths n ≡ n / 1000000 + 42950656 * (n % 10000)
-  hundredths-are = omega arith
+  pub second-hundreds : hundredth first second / 4294967296 ≡ second / 100
+  second-hundreds = rw hundredth-is (omega arith)
 
-  low-is : n % 10000 / 100 ≡ n / 100 % 100
-  low-is = omega arith
+  pub pairs-left : fours first second * 65536
+      ≡ (first / 100 + second / 100 * 4294967296) * 6553599 + lanes (first / 100) (first % 100) (second / 100) (second % 100)
+  pairs-left = omega arith
 
-  pub low-hundreds : hundredths n % 128 ≡ n / 1000000
-  low-hundreds = rw hundredths-are (omega arith)
+-- the pairs of eight digits, by their halves
+pub pairs-of : (n : ℕ) → lanes (n / 10000 / 100) (n / 10000 % 100) (n % 10000 / 100) (n % 10000 % 100) ≡ pairsOf n
+pairs-of n =
+    let second : n % 10000 / 100 ≡ n / 100 % 100 = omega arith in
+    let last : n % 10000 % 100 ≡ n % 100 = omega arith in
+    rw (div-div-eq-div-mul, second, last)
 
-  pub high-hundreds : hundredths n / 4294967296 ≡ n / 100 % 100
-  high-hundreds = rw hundredths-are (high-share (n / 1000000) (n % 10000) (omega arith) (omega arith) ∙ low-is)
+-- ---- four numbers of two digits, by 10
 
-  pub less-pairs : fours n * 65536 ≡ (n / 1000000 + n / 100 % 100 * 4294967296) * 6553599 + pairsOf n
-  less-pairs =
-      let h : n / 10000 ≡ 100 * (n / 1000000) + n / 10000 % 100 = omega arith in
-      let l : n % 10000 ≡ 100 * (n / 100 % 100) + n % 100 = omega arith in
-      (λ i. (h i + l i * 4294967296) * 65536) ∙ less-hundreds (n / 1000000) (n / 10000 % 100) (n / 100 % 100) (n % 100)
-
--- ---- four numbers below 100, by 10
-
-next-share : (a b rest : ℕ) → a < 10 → b < 100 → (a + 6592 * (b + 65536 * rest)) / 65536 ≡ b / 10 + 6592 * rest
-next-share a b rest g h = omega arith
-
-this-share : (a rest : ℕ) → a < 10 → (a + 6592 * rest) % 16 ≡ a
-this-share a rest h = omega arith
-
-abbrev tenths : ℕ → ℕ
-tenths p = p * 103 / 1024
-
--- four pairs, in one
+-- four pairs in one word
 pub record Paired (a b c d p : ℕ) : Type 0 where
   pub first : a < 100
   pub second : b < 100
@@ -68,109 +65,92 @@ pub record Paired (a b c d p : ℕ) : Type 0 where
 pub paired : (n p : ℕ) → n < 100000000 → p ≡ pairsOf n → Paired (n / 1000000) (n / 10000 % 100) (n / 100 % 100) (n % 100) p
 paired n p s e = record { first = omega arith; second = omega arith; third = omega arith; fourth = omega arith; is = e }
 
-module _ (a b c d p : ℕ) (q : Paired a b c d p) where
-  tenths-1 : tenths p ≡ a / 10 + 6592 * (b + 65536 * (c + 65536 * d))
-  tenths-1 = omega arith
+abbrev tenth : ℕ → ℕ
+tenth p = p * 103 / 1024
 
-  tenths-2 : tenths p / 65536 ≡ b / 10 + 6592 * (c + 65536 * d)
-  tenths-2 = rw tenths-1 (next-share (a / 10) b (c + 65536 * d) (omega arith) (q .second))
+-- of a tenth, what lies above a lane, and this lane alone
+lane-above : (a b rest : ℕ) → a < 100 → b < 100 → (a / 10 + 6592 * (b + 65536 * rest)) / 65536 ≡ b / 10 + 6592 * rest
+lane-above a b rest g h = omega arith
 
-  tenths-3 : tenths p / 4294967296 ≡ c / 10 + 6592 * d
-  tenths-3 =
-      let t : tenths p / 4294967296 ≡ tenths p / 65536 / 65536 = omega arith in
-      rw (t, tenths-2) (next-share (b / 10) c d (omega arith) (q .third))
+lane-alone : (a rest : ℕ) → a < 100 → (a / 10 + 6592 * rest) % 16 ≡ a / 10
+lane-alone a rest h = omega arith
 
-  tenths-4 : tenths p / 281474976710656 ≡ d / 10
-  tenths-4 =
-      let t : tenths p / 281474976710656 ≡ tenths p / 4294967296 / 65536 = omega arith in
-      rw (t, tenths-3) (omega arith)
-
-  lane-1 : tenths p % 16 ≡ a / 10
-  lane-1 = rw tenths-1 (this-share (a / 10) _ (omega arith))
-
-  lane-2 : tenths p / 65536 % 16 ≡ b / 10
-  lane-2 = rw tenths-2 (this-share (b / 10) _ (omega arith))
-
-  lane-3 : tenths p / 4294967296 % 16 ≡ c / 10
-  lane-3 = rw tenths-3 (this-share (c / 10) _ (omega arith))
-
-  pub tens-are : tenths p % 16 + tenths p / 65536 % 16 * 65536 + tenths p / 4294967296 % 16 * 4294967296
-      + tenths p / 281474976710656 * 281474976710656 ≡ lanes (a / 10) (b / 10) (c / 10) (d / 10)
-  tens-are = rw (lane-1, lane-2, lane-3, tenths-4) (omega arith)
-
-  pub pairs-few : p < 28147926199271424
-  pairs-few = omega arith
-
-  pub tens-few : lanes (a / 10) (b / 10) (c / 10) (d / 10) < 2814792619927143
-  tens-few = omega arith
-
--- ---- the digits by pairs
-
+-- a pair in two bytes, as text
 abbrev pairText : ℕ → ℕ
 pairText x = (48 + x / 10) + 256 * (48 + x % 10)
 
--- the text of four pairs: the tens taken out
-less-tens : (a b c d p : ℕ) → p ≡ lanes a b c d → p * 256 + 3472328296227680304
-    ≡ lanes (a / 10) (b / 10) (c / 10) (d / 10) * 2559 + lanes (pairText a) (pairText b) (pairText c) (pairText d)
-less-tens a b c d p e = omega arith
+module _ {a b c d p : ℕ} (q : Paired a b c d p) where
+  pub tens-are : tenth p % 16 + tenth p / 65536 % 16 * 65536 + tenth p / 4294967296 % 16 * 4294967296
+      + tenth p / 281474976710656 * 281474976710656 ≡ lanes (a / 10) (b / 10) (c / 10) (d / 10)
+  tens-are =
+      let first : tenth p ≡ a / 10 + 6592 * (b + 65536 * (c + 65536 * d)) = omega arith in
+      let second : tenth p / 65536 ≡ b / 10 + 6592 * (c + 65536 * d) = rw first (lane-above a b _ (q .first) (q .second)) in
+      let third : tenth p / 4294967296 ≡ c / 10 + 6592 * d =
+      rw (← div-div-eq-div-mul (tenth p) 65536 65536, second) (lane-above b c _ (q .second) (q .third)) in
+      let fourth : tenth p / 281474976710656 ≡ d / 10 = rw (← div-div-eq-div-mul (tenth p) 4294967296 65536, third) (omega arith) in
+      rw (fourth, third, second, first, lane-alone a _ (q .first), lane-alone b _ (q .second), lane-alone c _ (q .third)) (omega arith)
 
-pair-high : (m : ℕ) → m / 10 % 10 ≡ m % 100 / 10
-pair-high m = omega arith
+  pub pairs-few : p < 100 * 281474976710656
+  pairs-few = omega arith
 
-pair-low : (m : ℕ) → m % 10 ≡ m % 100 % 10
-pair-low m = omega arith
+  pub tens-few : lanes (a / 10) (b / 10) (c / 10) (d / 10) < 10 * 281474976710656
+  tens-few = omega arith
 
-by-hundred : (m : ℕ) → m / 10 / 10 ≡ m / 100
-by-hundred m = omega arith
+  -- with `0` added in each byte and the tens taken out, the text of the pairs is left
+  text-left : p * 256 + 3472328296227680304
+      ≡ lanes (a / 10) (b / 10) (c / 10) (d / 10) * 2559 + lanes (pairText a) (pairText b) (pairText c) (pairText d)
+  text-left = omega arith
+
+-- ---- eight digits
+
+-- the tens and the ones of a pair of digits
+tens-of : (m : ℕ) → m % 100 / 10 ≡ m / 10 % 10
+tens-of m = omega arith
+
+ones-of : (m : ℕ) → m % 100 % 10 ≡ m % 10
+ones-of m = omega arith
 
 spelt-pairs : (n : ℕ) → n < 100000000
     → word (lastDigits 8 n) ≡ lanes (pairText (n / 1000000)) (pairText (n / 10000 % 100)) (pairText (n / 100 % 100)) (pairText (n % 100))
 unfolding word lastDigits
 spelt-pairs n s =
-    let e4 : n / 100 / 10 / 10 ≡ n / 10000 = omega arith in
-    let e6 : n / 10000 / 10 / 10 ≡ n / 1000000 = omega arith in
-    let top : n / 1000000 / 10 % 10 ≡ n / 1000000 / 10 = omega arith in
-    rw (by-hundred n, e4, e6, top, pair-high (n / 10000), pair-low (n / 10000), pair-high (n / 100), pair-low (n / 100), pair-high n, pair-low n)
-    (omega arith)
+    let top : n / 10000000 % 10 ≡ n / 10000000 = omega arith in
+    simp (div-div-eq-div-mul, tens-of, ones-of, top) (omega arith)
 
-pub less-text : (n p : ℕ) → n < 100000000 → p ≡ pairsOf n → p * 256 + 3472328296227680304
+-- and so that of the digits
+pub digits-left : (n p : ℕ) → n < 100000000 → p ≡ pairsOf n → p * 256 + 3472328296227680304
     ≡ lanes (n / 1000000 / 10) (n / 10000 % 100 / 10) (n / 100 % 100 / 10) (n % 100 / 10) * 2559 + word (lastDigits 8 n)
-less-text n p s e = rw (spelt-pairs n s) (less-tens (n / 1000000) (n / 10000 % 100) (n / 100 % 100) (n % 100) p e)
+digits-left n p s e = rw (spelt-pairs n s) (text-left (paired n p s e))
 
 -- ---- the bytes of a word
 
-this-byte : (b r w : ℕ) → b < 256 → w ≡ b + 256 * r → w % 256 ≡ b
-this-byte b r w f e = omega arith
+-- so many, each taken off what is left
+abbrev taken : (count w : ℕ) → List ℕ
+taken zero w = []
+taken (suc count) w = (w % 256) ∷ taken count (w / 256)
 
-next-bytes : (b r w : ℕ) → b < 256 → w ≡ b + 256 * r → w / 256 ≡ r
-next-bytes b r w f e = omega arith
+abbrev Bytes : List ℕ → Type 0
+Bytes [] = Unit
+Bytes (b ∷ bytes) = (b < 256) × Bytes bytes
 
-last-byte : (b w : ℕ) → w ≡ b + 256 * 0 → w ≡ b
-last-byte b w e = omega arith
+word-taken : (bytes : List ℕ) (w : ℕ) → Bytes bytes → w ≡ word bytes → taken (length bytes) w ≡ bytes
+unfolding word
+word-taken [] w h e = refl
+word-taken (b ∷ bytes) w h e =
+    let this : w % 256 ≡ b = omega (arith, h .0) in
+    let rest : w / 256 ≡ word bytes = omega (arith, h .0) in
+    λ i. this i ∷ word-taken bytes (w / 256) (h .1) rest i
 
-digit-fits : (m : ℕ) → 48 + m % 10 < 256
-digit-fits m = omega arith
-
--- the digits of what a word spells
-pub bytes-spelt : (n w : ℕ) → w ≡ word (lastDigits 8 n)
-    → (w % 256) ∷ (w / 256 % 256) ∷ (w / 65536 % 256) ∷ (w / 16777216 % 256) ∷ (w / 4294967296 % 256) ∷ (w / 1099511627776 % 256)
+-- each taken by itself
+abbrev pub bytesOf : ℕ → List ℕ
+bytesOf w =
+    (w % 256) ∷ (w / 256 % 256) ∷ (w / 65536 % 256) ∷ (w / 16777216 % 256) ∷ (w / 4294967296 % 256) ∷ (w / 1099511627776 % 256)
     ∷ (w / 281474976710656 % 256) ∷ (w / 72057594037927936) ∷ []
-    ≡ lastDigits 8 n
-unfolding word lastDigits
-bytes-spelt n w e =
-    let w1 = next-bytes _ _ w (digit-fits _) e in
-    let q2 : w / 65536 ≡ w / 256 / 256 = omega arith in
-    let w2 = q2 ∙ next-bytes _ _ (w / 256) (digit-fits _) w1 in
-    let q3 : w / 16777216 ≡ w / 65536 / 256 = omega arith in
-    let w3 = q3 ∙ next-bytes _ _ (w / 65536) (digit-fits _) w2 in
-    let q4 : w / 4294967296 ≡ w / 16777216 / 256 = omega arith in
-    let w4 = q4 ∙ next-bytes _ _ (w / 16777216) (digit-fits _) w3 in
-    let q5 : w / 1099511627776 ≡ w / 4294967296 / 256 = omega arith in
-    let w5 = q5 ∙ next-bytes _ _ (w / 4294967296) (digit-fits _) w4 in
-    let q6 : w / 281474976710656 ≡ w / 1099511627776 / 256 = omega arith in
-    let w6 = q6 ∙ next-bytes _ _ (w / 1099511627776) (digit-fits _) w5 in
-    let q7 : w / 72057594037927936 ≡ w / 281474976710656 / 256 = omega arith in
-    let w7 = q7 ∙ next-bytes _ _ (w / 281474976710656) (digit-fits _) w6 in
-    λ i. this-byte _ _ w (digit-fits _) e i ∷ this-byte _ _ _ (digit-fits _) w1 i ∷ this-byte _ _ _ (digit-fits _) w2 i
-    ∷ this-byte _ _ _ (digit-fits _) w3 i ∷ this-byte _ _ _ (digit-fits _) w4 i ∷ this-byte _ _ _ (digit-fits _) w5 i
-    ∷ this-byte _ _ _ (digit-fits _) w6 i ∷ last-byte _ _ w7 i ∷ []
+
+pub bytes-spelt : (n w : ℕ) → w < 18446744073709551616 → w ≡ word (lastDigits 8 n) → bytesOf w ≡ lastDigits 8 n
+unfolding lastDigits
+bytes-spelt n w fits e =
+    let last : w / 72057594037927936 ≡ w / 72057594037927936 % 256 = omega arith in
+    let all : bytesOf w ≡ taken 8 w = rw last (simp div-div-eq-div-mul) in
+    all ∙ word-taken (lastDigits 8 n) w
+    (omega arith, (omega arith, (omega arith, (omega arith, (omega arith, (omega arith, (omega arith, (omega arith, tt)))))))) e

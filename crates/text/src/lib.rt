@@ -53,7 +53,7 @@ fn places_few(n: u32) -> usize
     1
 }
 
-// A number in decimal, its last digit first.
+// A number in decimal, spelt from its last digit to its first.
 fn put_decimal(part: &mut [u8], n: u32) -> usize
     requires { ⌜ 10 ≤ length (now part) ⌝ }
     ensures { λ r. ⌜ put (now (part .exit)) r ≡ puts (decimal n) (now (part .entry)) ⌝ }
@@ -70,8 +70,8 @@ fn put_decimal(part: &mut [u8], n: u32) -> usize
     count
 }
 
-// The four pairs of eight digits, each in sixteen bits, the first lowest: both halves by 100 in one product, 10486 for 2^20 / 100, and from
-// 65536 times each half its hundreds, 65536 * 100 - 1 times, so that they stay below what is left.
+// The four pairs of eight digits, each in sixteen bits, the first lowest. Both halves are split at once: a half times 10486 / 2^20 is its
+// hundreds, and 65536 times a half, less 65536 * 100 - 1 times its hundreds, is its hundreds below its rest. proofs/Lanes says why.
 fn pairs(n: u32) -> u64
     requires { ⌜ n < 100000000 ⌝ }
     ensures { λ r. ⌜ r ≡ pairsOf n ⌝ }
@@ -82,8 +82,8 @@ fn pairs(n: u32) -> u64
     fours * 65536 - hundreds * 6553599
 }
 
-// The text of eight digits, each in eight bits, the first lowest: the four pairs by 10 in one product, 103 for 2^10 / 10, and from 256 times
-// each pair its tens, 256 * 10 - 1 times, over eight bytes of `0`.
+// The text of eight digits, each in eight bits, the first lowest. The four pairs are split at once: a pair times 103 / 2^10 is its tens, and
+// 256 times a pair, less 256 * 10 - 1 times its tens, is its tens below its ones; and `0` is added in each byte.
 fn spelt(n: u32) -> u64
     requires { ⌜ n < 100000000 ⌝ }
     ensures { λ r. ⌜ r ≡ word (lastDigits 8 n) ⌝ }
@@ -97,7 +97,7 @@ fn spelt(n: u32) -> u64
     pairs * 256 + 3472328296227680304 - tens * 2559
 }
 
-// Eight digits.
+// Eight digits, from one word.
 fn put_eight(part: &mut [u8], n: u32) -> usize
     requires { ⌜ n < 100000000 ⌝ }
     requires { ⌜ 8 ≤ length (now part) ⌝ }

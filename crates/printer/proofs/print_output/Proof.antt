@@ -1,5 +1,5 @@
 -- What is to come falls with each block that got bytes.
-use Prim.Native.Nat.{ℕ}
+use Prim.Native.Nat.{ℕ, _<_}
 use mathlib.Core.Path.{_≡_, refl, sym, _∙_, ap, subst}
 use native.Mathlib.Omega.{arith}
 use lib.ListN.{length}
@@ -34,21 +34,37 @@ Inv-loop file addresses₀ links₀ deleters₀ block₀ run₀ addresses links 
 abbrev μ-loop : tie.MeasureT-loop
 μ-loop file addresses₀ links₀ deleters₀ block₀ run₀ addresses links deleters block run = length (toCome file (world addresses links deleters run))
 
+-- back from where a block is filled: to what filled it, to the loop, to the run begun, and to the start
+abbrev filled : tie.After-slice-known11 Inv-loop μ-loop → tie.After-fill Inv-loop μ-loop
+filled c = c .before .before .before .before .before .before .before .before
+
+abbrev looped : tie.After-fill Inv-loop μ-loop → tie.At-loop Inv-loop μ-loop
+looped c = c .before .before .before .before .before
+
+abbrev begins : tie.At-loop Inv-loop μ-loop → tie.After-begin Inv-loop μ-loop
+begins c = c .before .before .before .before .before .before .before
+
+abbrev started : tie.After-begin Inv-loop μ-loop → tie.Start Inv-loop μ-loop
+started c = c .before .before .before .before .before .before .before .before .before
+
+-- where the run stands at the loop
+abbrev standing : tie.At-loop Inv-loop μ-loop → World
+standing c = let l = c .loop in world (l .addresses) (l .links) (l .deleters) (l .run)
+
 begin-requires : tie.Need-begin-requires Inv-loop μ-loop
 begin-requires c κs = search needs
 
 loop-holds : tie.Need-loop-holds Inv-loop μ-loop
 loop-holds c =
-    let c6 = c .before .before .before .before .before .before in
-    let c15 = c6 .before .before .before .before .before .before .before .before .before in
-    let a = c15 .args in
+    let b = c .before .before .before .before .before .before in
+    let a = started b .args in
     record {
       addresses-are = refl;
       links-are = refl;
       deleters-are = refl;
       block-is = refl;
-      numbered = subst (Numbered (a .file .now)) (sym (c6 .begin .ensures)) (begin-numbered
-          (a .file .now) (a .addresses .now) (a .links .now) (a .deleters .now));
+      numbered = subst (Numbered (a .file .now)) (sym (b .begin .ensures))
+          (begin-numbered (a .file .now) (a .addresses .now) (a .links .now) (a .deleters .now));
       reached = begun refl;
     }
 
@@ -69,20 +85,17 @@ same-length-4 c = search needs
 
 returns : tie.Need-returns Inv-loop μ-loop
 returns c =
-    let cf = c .before .before .before .before .before .before .before .before .before in
-    let cl = cf .before .before .before .before .before in
-    let cb = cl .before .before .before .before .before .before .before in
-    let l = cl .loop in
-    ended _ _ _ (world (l .addresses) (l .links) (l .deleters) (l .run)) _ _ _ (l .block) _ _ _ _ (cb .begin .ensures) (cf .fill .ensures .0) (l .inv .reached) (l .inv .numbered)
-    (c .if1 .taken) (l .inv .block-is)
+    let f = filled (c .before) in
+    let o = looped f in
+    let l = o .loop in
+    ended (standing o) (l .block) (begins o .begin .ensures) (f .fill .ensures .0) (l .inv .reached) (l .inv .numbered) (c .if1 .taken)
+    (l .inv .block-is)
 
 slice-reshare-prefix-write-all : tie.Need-slice-reshare-prefix-write-all Inv-loop μ-loop
 slice-reshare-prefix-write-all c = search needs
 
 slice-aggregate-write-all : tie.Need-slice-aggregate-write-all Inv-loop μ-loop
-slice-aggregate-write-all c =
-    let c11 = c .before .before .before .before .before .before .before .before .before .before .before in
-    sym (length-take-le _ _ (c11 .fill .ensures .1))
+slice-aggregate-write-all c = sym (length-take-le _ _ (filled (c .before .before .before) .fill .ensures .1))
 
 write-all-requires : tie.Need-write-all-requires Inv-loop μ-loop
 write-all-requires c κs = search needs
@@ -101,33 +114,36 @@ same-length-8 c = search needs
 
 returns-2 : tie.Need-returns-2 Inv-loop μ-loop
 returns-2 c =
-    let cf = c .before .before .before .before .before .before .before .before .before .before .before .before .before in
-    let cl = cf .before .before .before .before .before in
-    let cb = cl .before .before .before .before .before .before .before in
-    let l = cl .loop in
-    stopped _ _ _ (world (l .addresses) (l .links) (l .deleters) (l .run)) _ _ _ (l .block) _ _ _ _ (cb .begin .ensures) (cf .fill .ensures .0) (l .inv .reached)
+    let f = filled (c .before .before .before .before .before) in
+    let o = looped f in
+    stopped (standing o) (o .loop .block) (begins o .begin .ensures) (f .fill .ensures .0) (o .loop .inv .reached)
+
+-- a block that got bytes: the numbers to come fit still, and less is to come
+got-bytes : (c : tie.Else1 Inv-loop μ-loop) →
+    let o = filled (c .before) in
+    let f = o .fill in
+    let file = started (begins (looped o)) .args .file .now in
+    let w = world (f .last .1 .0) (f .last .1 .1 .0) (f .last .1 .1 .1 .0) (f .result .run) in
+    Numbered file w × (length (toCome file w) < length (toCome file (standing (looped o))))
+got-bytes c =
+    let o = filled (c .before) in
+    let l = looped o .loop in
+    falls _ (standing (looped o)) (l .block) _ (o .fill .ensures .0) (l .inv .numbered) (omega (arith, c .if1 .left))
 
 loop-less : tie.Need-loop-less Inv-loop μ-loop
-loop-less c =
-    let c13 = c .before .before .before .before .before .before .before .before .before .before .before .before .before in
-    let c18 = c13 .before .before .before .before .before in
-    let c34 = c18 .before .before .before .before .before .before .before .before .before .before .before .before .before .before .before .before in
-    let l = c18 .loop in
-    falls (c34 .args .file .now) (world (l .addresses) (l .links) (l .deleters) (l .run)) (l .block) _ (c13 .fill .ensures .0) (l .inv .numbered) (omega (arith, c .before .before .before .before .if1 .left)) .1
+loop-less c = got-bytes (c .before .before .before .before) .1
 
 loop-again : tie.Need-loop-again Inv-loop μ-loop
 loop-again c =
-    let c13 = c .before .before .before .before .before .before .before .before .before .before .before .before .before in
-    let c18 = c13 .before .before .before .before .before in
-    let c34 = c18 .before .before .before .before .before .before .before .before .before .before .before .before .before .before .before .before in
-    let l = c18 .loop in
-    let f = c13 .fill in
+    let o = filled (c .before .before .before .before .before) in
+    let l = looped o .loop in
+    let f = o .fill in
     record {
       addresses-are = f .kept .1 .0 ∙ l .inv .addresses-are;
       links-are = f .kept .1 .1 .0 ∙ l .inv .links-are;
       deleters-are = f .kept .1 .1 .1 .0 ∙ l .inv .deleters-are;
       block-is = f .kept .1 .1 .1 .1 .0 ∙ l .inv .block-is;
-      numbered = falls (c34 .args .file .now) (world (l .addresses) (l .links) (l .deleters) (l .run)) (l .block) _ (f .ensures .0) (l .inv .numbered) (omega (arith, c .before .before .before .before .if1 .left)) .0;
+      numbered = got-bytes (c .before .before .before .before) .0;
       reached = onward (l .block) (l .inv .reached) (sym (ap (λ (x : Stop World). x .state) (f .ensures .0)));
     }
 

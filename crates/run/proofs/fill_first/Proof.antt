@@ -1,9 +1,7 @@
 -- One case for each phase.
-use mathlib.Core.Path.{refl}
-use Prim.Native.Nat.{suc, _-_}
+use Prim.Native.Nat.{_-_}
 use native.Mathlib.Omega.{arith}
-use lib.ListN.{length}
-use Rattle.run.specs.Pieces.{fills}
+use Rattle.run.proofs.Steps.{from-start}
 use borrow.Author.Needs.{needs}
 use Rattle.run.proofs.fill_first.Statement.{statement}
 use Rattle.run.proofs.fill_first.Tie as tie
@@ -51,16 +49,10 @@ returns-2 : tie.Need-returns-2
 returns-2 c = search needs
 
 returns-3 : tie.Need-returns-3
-unfolding fills
-returns-3 c =
-    let a = c .before .before .before .before .before .before .before .args in
-    (record { turns = suc (length (a .block .now)); enough = omega arith; same = refl }, (omega arith, rw (c .enum-told2 .given .1) tt))
+returns-3 c = (from-start _ _ _, (omega arith, rw (c .enum-told2 .given .1) tt))
 
 returns-4 : tie.Need-returns-4
-unfolding fills
-returns-4 c =
-    let a = c .before .before .before .before .before .before .before .args in
-    (record { turns = suc (length (a .block .now)); enough = omega arith; same = refl }, (omega arith, rw (c .enum-told3 .given .1) tt))
+returns-4 c = (from-start _ _ _, (omega arith, rw (c .enum-told3 .given .1) tt))
 
 pub fill-first-spec : {M : Type 1} → statement M
 fill-first-spec =

@@ -1,7 +1,10 @@
 -- The hundreds of both halves at once, and what is left of them.
+use Prim.Native.Nat.{_/_, _%_}
+use mathlib.Core.Path.{_∙_}
 use native.Mathlib.Omega.{arith}
-use Rattle.text.proofs.Lanes.{left-is, left-some, low-hundreds, high-hundreds, less-pairs}
+use native.Mathlib.Nat.{le-add-right, add-sub-cancel-left}
 use borrow.Author.Needs.{needs}
+use Rattle.text.proofs.Lanes.{halves, first-hundreds, second-hundreds, pairs-left, pairs-of}
 use Rattle.text.proofs.pairs.Statement.{statement}
 use Rattle.text.proofs.pairs.Tie as tie
 
@@ -21,22 +24,26 @@ mul-shares : tie.Need-mul-shares
 mul-shares c = search needs
 
 mul-hundreds : tie.Need-mul-hundreds
-mul-hundreds c = rw (high-hundreds (c .args .n) (c .pre)) (omega arith)
+mul-hundreds c = rw (second-hundreds (halves (c .args .n) (c .pre))) (omega arith)
 
 add-hundreds : tie.Need-add-hundreds
-add-hundreds c = rw (low-hundreds (c .args .n) (c .pre), high-hundreds (c .args .n) (c .pre)) (omega arith)
+add-hundreds c = let q = halves (c .args .n) (c .pre) in rw (first-hundreds q, second-hundreds q) (omega arith)
 
 mul-result : tie.Need-mul-result
 mul-result c = search needs
 
 mul-result-2 : tie.Need-mul-result-2
-mul-result-2 c = rw (low-hundreds (c .args .n) (c .pre), high-hundreds (c .args .n) (c .pre)) (omega arith)
+mul-result-2 c = let q = halves (c .args .n) (c .pre) in rw (first-hundreds q, second-hundreds q) (omega arith)
 
 sub-result : tie.Need-sub-result
-sub-result c = rw (low-hundreds (c .args .n) (c .pre), high-hundreds (c .args .n) (c .pre)) (left-some _ _ _ (less-pairs (c .args .n) (c .pre)))
+sub-result c =
+    let q = halves (c .args .n) (c .pre) in
+    rw (first-hundreds q, second-hundreds q, pairs-left q) (le-add-right _ _)
 
 returns : tie.Need-returns
-returns c = rw (low-hundreds (c .args .n) (c .pre), high-hundreds (c .args .n) (c .pre)) (left-is _ _ _ (less-pairs (c .args .n) (c .pre)))
+returns c =
+    let q = halves (c .args .n) (c .pre) in
+    rw (first-hundreds q, second-hundreds q, pairs-left q) (add-sub-cancel-left _ _ ∙ pairs-of (c .args .n))
 
 pub pairs-spec : {M : Type 1} → statement M
 pairs-spec =

@@ -1,14 +1,14 @@
 -- The space, then the address into the rest.
 use mathlib.Core.List.{[], _∷_}
 use native.Mathlib.Omega.{arith}
-use Rattle.text.proofs.Puts.{put-then, too-short, has-room}
+use Rattle.text.proofs.Puts.{put-then, too-short, roomy}
 use Rattle.text.specs.Text.{decimal, space}
 use borrow.Author.Needs.{needs}
 use Rattle.text.proofs.put_address.Statement.{statement}
 use Rattle.text.proofs.put_address.Tie as tie
 
 returns : tie.Need-returns
-returns c = let a = c .before .before .args in (too-short (space ∷ decimal (a .address .0)) (a .part .now) (search needs), search needs)
+returns c = (too-short _ _ (search needs), search needs)
 
 put-byte-requires : tie.Need-put-byte-requires
 put-byte-requires c κs = search needs
@@ -38,7 +38,7 @@ returns-2 c =
     let a = c10 .args in
     let whole = put-then (space ∷ []) (decimal (a .address .0)) (a .part .now) _ _ _ _
     (c6 .put-byte .ensures .0) (c .before .before .put-decimal .ensures .0) in
-    (has-room (space ∷ decimal (a .address .0)) (a .part .now) _ (omega arith) whole, omega arith)
+    (rw (roomy _ (a .part .now) (omega arith)) whole, omega arith)
 
 pub put-address-spec : {M : Type 1} → statement M
 put-address-spec =

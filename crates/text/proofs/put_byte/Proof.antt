@@ -1,5 +1,6 @@
 -- One byte stored at the start.
-use Rattle.text.proofs.Puts.{put-one}
+use mathlib.Core.List.{[], _∷_}
+use Rattle.text.proofs.Puts.{put-stored}
 use borrow.Author.Needs.{needs}
 use Rattle.text.proofs.put_byte.Statement.{statement}
 use Rattle.text.proofs.put_byte.Tie as tie
@@ -11,7 +12,7 @@ same-length : tie.Need-same-length
 same-length c = search needs
 
 returns : tie.Need-returns
-returns c = (put-one (c .args .part .now) (c .args .byte) (search needs), search needs)
+returns c = (put-stored (c .args .byte ∷ []) (c .args .part .now) (search needs), search needs)
 
 pub put-byte-spec : {M : Type 1} → statement M
 put-byte-spec = tie.close (tie.spec slice-write-part same-length returns)

@@ -65,7 +65,7 @@ loop-again c =
       within = omega arith;
       few = l .inv .few;
       part-is = simp length-set (l .inv .part-is);
-      spelt = spell-more (l .part) (l .i - 1) (l .rest) (omega arith) ∙ (ap (λ (j : ℕ). lastDigits j (l .rest) ++ drop j (l .part)) (sym i) ∙ l .inv .spelt);
+      spelt = spell-more (l .part) (l .i - 1) (l .rest) (omega arith) ∙ rw (← i) (l .inv .spelt);
     }
 
 same-length : tie.Need-same-length Inv-loop μ-loop

@@ -1,12 +1,8 @@
 -- Byte after byte of the word, the first lowest.
-use Prim.Native.Nat.{ℕ}
-use mathlib.Core.List.{List}
-use mathlib.Core.Path.{ap, _∙_}
 use native.Mathlib.Omega.{arith}
 use lib.ListN.{length-set}
-use Rattle.text.specs.Put.{puts}
-use Rattle.text.proofs.Lanes.{bytes-spelt}
-use Rattle.text.proofs.Puts.{put-eight}
+use Rattle.text.proofs.Lanes.{bytesOf, bytes-spelt}
+use Rattle.text.proofs.Puts.{put-stored}
 use borrow.Author.Needs.{needs}
 use Rattle.text.proofs.put_eight.Statement.{statement}
 use Rattle.text.proofs.put_eight.Tie as tie
@@ -68,8 +64,8 @@ same-length c = search needs
 returns : tie.Need-returns
 returns c =
     let a = c .before .before .args in
-    put-eight (a .part .now) _ _ _ _ _ _ _ _ (omega arith)
-    ∙ ap (λ (l : List ℕ). puts l (a .part .now)) (bytes-spelt (a .n) (c .spelt .result) (c .spelt .ensures))
+    let w = c .spelt .result in
+    rw (← bytes-spelt (a .n) w (omega arith) (c .spelt .ensures)) (put-stored (bytesOf w) (a .part .now) (omega arith))
 
 pub put-eight-spec : {M : Type 1} → statement M
 put-eight-spec =

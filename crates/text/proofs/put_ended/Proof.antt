@@ -1,10 +1,9 @@
 -- The digits, and one byte more.
-use Prim.Native.Nat.{ℕ, _+_}
-use mathlib.Core.List.{List, [], _∷_, _++_}
-use mathlib.Core.Path.{ap}
+use Prim.Native.Nat.{_+_}
+use mathlib.Core.List.{[], _∷_}
 use native.Mathlib.Omega.{arith}
 use lib.ListN.{length-set}
-use Rattle.text.proofs.Puts.{put-one, put-byte, puts-same}
+use Rattle.text.proofs.Puts.{put-stored, put-byte}
 use Rattle.text.specs.Text.{decimal, newline}
 use Rattle.text.proofs.Decimal.{decimal-one, decimal-length}
 use borrow.Author.Needs.{needs}
@@ -29,12 +28,7 @@ same-length c = search needs
 returns : tie.Need-returns
 returns c =
     let a = c .before .before .args in
-    let digit = (48 + a .n) ∷ [] in (
-      puts-same (digit ++ (newline ∷ [])) (decimal (a .n) ++ (newline ∷ [])) (a .part .now) _
-          (ap (λ (l : List ℕ). l ++ (newline ∷ [])) (decimal-one (a .n) (omega arith)))
-          (put-byte digit (a .part .now) _ _ newline (put-one (a .part .now) (48 + a .n) (omega arith)) (omega arith)),
-      omega arith,
-    )
+    (rw (decimal-one (a .n) (omega arith)) (put-stored ((48 + a .n) ∷ newline ∷ []) (a .part .now) (omega arith)), omega arith)
 
 put-decimal-requires : tie.Need-put-decimal-requires
 put-decimal-requires c κs = search needs
@@ -51,7 +45,8 @@ same-length-2 c = search needs
 returns-2 : tie.Need-returns-2
 returns-2 c =
     let a = c .before .before .before .before .before .before .args in
-    (put-byte (decimal (a .n)) (a .part .now) _ _ newline (c .before .before .put-decimal .ensures .0) (omega (arith, decimal-length (a .n))), omega arith)
+    let digits = c .before .before .put-decimal .ensures .0 in
+    (put-byte (decimal (a .n)) (a .part .now) _ _ newline digits (omega (arith, decimal-length (a .n))), omega arith)
 
 pub put-ended-spec : {M : Type 1} → statement M
 put-ended-spec =

@@ -1,13 +1,13 @@
 -- The word `keys`, where there is room.
 use native.Mathlib.Omega.{arith}
-use Rattle.text.proofs.Puts.{too-short, has-room}
+use Rattle.text.proofs.Puts.{too-short, roomy}
 use Rattle.text.specs.Text.{keysWord}
 use borrow.Author.Needs.{needs}
 use Rattle.text.proofs.put_keys.Statement.{statement}
 use Rattle.text.proofs.put_keys.Tie as tie
 
 returns : tie.Need-returns
-returns c = (too-short keysWord (c .before .before .args .part .now) (search needs), search needs)
+returns c = (too-short _ _ (search needs), search needs)
 
 slice-aggregate-put-text : tie.Need-slice-aggregate-put-text
 slice-aggregate-put-text c = search needs
@@ -20,11 +20,8 @@ same-length c = search needs
 
 returns-2 : tie.Need-returns-2
 returns-2 c =
-    let c7 = c .before .before .before .before .before .before .before in (
-      has-room keysWord (c7 .args .part .now) _ (omega arith)
-          (c .before .before .put-text .ensures .0),
-      omega arith,
-    )
+    let c7 = c .before .before .before .before .before .before .before in
+    (rw (roomy keysWord (c7 .args .part .now) (omega arith)) (c .before .before .put-text .ensures .0), omega arith)
 
 pub put-keys-spec : {M : Type 1} → statement M
 put-keys-spec =

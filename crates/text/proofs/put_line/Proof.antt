@@ -1,7 +1,7 @@
 -- The number, then the outcome into the rest.
 use mathlib.Core.List.{[], _∷_, _++_}
 use native.Mathlib.Omega.{arith}
-use Rattle.text.proofs.Puts.{put-over, too-short, has-room}
+use Rattle.text.proofs.Puts.{put-over, too-short, roomy}
 use Rattle.text.proofs.Lengths.{outcome-some}
 use Rattle.text.specs.Text.{decimal, space, newline, outcomeText, line}
 use borrow.Author.Needs.{needs}
@@ -9,7 +9,7 @@ use Rattle.text.proofs.put_line.Statement.{statement}
 use Rattle.text.proofs.put_line.Tie as tie
 
 returns : tie.Need-returns
-returns c = let a = c .before .before .args in (too-short (line (a .number) (a .outcome)) (a .part .now) (search needs), search needs)
+returns c = (too-short _ _ (search needs), search needs)
 
 put-number-requires : tie.Need-put-number-requires
 put-number-requires c κs = search needs
@@ -41,7 +41,7 @@ returns-2 c =
     let rest = space ∷ outcomeText (a .outcome) ++ (newline ∷ []) in
     let whole = put-over (decimal (a .number)) rest (a .part .now) _ _ _ _
     (c6 .put-number .ensures) (outcome-some (a .outcome)) (c .before .before .put-outcome .ensures .0) in
-    (has-room (line (a .number) (a .outcome)) (a .part .now) _ (omega arith) whole, omega arith)
+    (rw (roomy _ (a .part .now) (omega arith)) whole, omega arith)
 
 pub put-line-spec : {M : Type 1} → statement M
 put-line-spec =

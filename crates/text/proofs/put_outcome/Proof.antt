@@ -1,13 +1,17 @@
 -- One writer for each case.
 use Rattle.text.proofs.Puts.{puts-same}
-use mathlib.Core.Path.{ap}
+use Prim.Native.Nat.{ℕ}
 use Rattle.record.specs.declared.Outcome.{Outcome}
 use Rattle.text.specs.Text.{space, newline, outcomeText}
-use mathlib.Core.List.{[], _∷_, _++_}
+use mathlib.Core.List.{List, [], _∷_, _++_}
 use native.Mathlib.Omega.{arith}
 use borrow.Author.Needs.{needs}
 use Rattle.text.proofs.put_outcome.Statement.{statement}
 use Rattle.text.proofs.put_outcome.Tie as tie
+
+-- an outcome as a line ends with it
+abbrev ending : Outcome → List ℕ
+ending o = space ∷ outcomeText o ++ (newline ∷ [])
 
 enum-known-outcome : tie.Need-enum-known-outcome
 enum-known-outcome c = search needs
@@ -36,12 +40,8 @@ same-length c = search needs
 returns : tie.Need-returns
 returns c =
     let c5 = c .before .before .before .before .before in
-    let c8 = c5 .before .before .before in
-    let a = c8 .args in (
-      puts-same _ _ (a .part .now) _ (ap (λ (o : Outcome). space ∷ outcomeText o ++ (newline ∷ []))
-          (c5 .outcome .given .1)) (c .before .before .put-refused .ensures .0),
-      omega arith,
-    )
+    let a = c5 .before .before .before .args in
+    (puts-same ending _ _ (a .part .now) _ (c5 .outcome .given .1) (c .before .before .put-refused .ensures .0), omega arith)
 
 same-length-2 : tie.Need-same-length-2
 same-length-2 c = search needs
@@ -50,12 +50,8 @@ returns-2 : tie.Need-returns-2
 unfolding outcomeText
 returns-2 c =
     let c5 = c .before .before .before .before .before in
-    let c8 = c5 .before .before .before in
-    let a = c8 .args in (
-      puts-same _ _ (a .part .now) _ (ap (λ (o : Outcome). space ∷ outcomeText o ++ (newline ∷ []))
-          (c5 .enum-told .given .1)) (c .before .before .put-text .ensures .0),
-      omega arith,
-    )
+    let a = c5 .before .before .before .args in
+    (puts-same ending _ _ (a .part .now) _ (c5 .enum-told .given .1) (c .before .before .put-text .ensures .0), omega arith)
 
 same-length-3 : tie.Need-same-length-3
 same-length-3 c = search needs
@@ -63,12 +59,8 @@ same-length-3 c = search needs
 returns-3 : tie.Need-returns-3
 returns-3 c =
     let c5 = c .before .before .before .before .before in
-    let c8 = c5 .before .before .before in
-    let a = c8 .args in (
-      puts-same _ _ (a .part .now) _ (ap (λ (o : Outcome). space ∷ outcomeText o ++ (newline ∷ []))
-          (c5 .outcome2 .given .1)) (c .before .before .put-answer .ensures .0),
-      omega arith,
-    )
+    let a = c5 .before .before .before .args in
+    (puts-same ending _ _ (a .part .now) _ (c5 .outcome2 .given .1) (c .before .before .put-answer .ensures .0), omega arith)
 
 pub put-outcome-spec : {M : Type 1} → statement M
 put-outcome-spec =

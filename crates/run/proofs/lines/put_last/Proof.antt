@@ -1,9 +1,8 @@
 -- One text for each way of ending.
 use native.Mathlib.Omega.{arith}
-use mathlib.Core.Path.{refl, ap, _∙_}
-use mathlib.Core.List.{[]}
+use mathlib.Core.Path.{refl, _∙_}
 use Rattle.text.proofs.Puts.{puts-same, roomy}
-use Rattle.run.specs.Parts.{stoppedText, lastText}
+use Rattle.run.specs.Parts.{lastText}
 use Rattle.text.specs.Text.{keysWord}
 use borrow.Author.Needs.{needs}
 use Rattle.run.proofs.lines.put_last.Statement.{statement}
@@ -26,11 +25,9 @@ put-stopped-requires c κs = search needs
 
 returns : tie.Need-returns
 unfolding lastText
-returns c = let a = c .before .before .before .args in (
-  puts-same [] (lastText (a .number) (a .read)) (a .part .now) _ (ap (lastText (a .number))
-      (c .enum-told .given .1)) refl,
-  omega arith,
-)
+returns c =
+    let a = c .before .before .before .args in
+    (puts-same (lastText (a .number)) _ _ (a .part .now) _ (c .enum-told .given .1) refl, omega arith)
 
 same-length : tie.Need-same-length
 same-length c = search needs
@@ -38,12 +35,10 @@ same-length c = search needs
 returns-2 : tie.Need-returns-2
 unfolding lastText
 returns-2 c =
-    let a = c .before .before .before .before .before .before .before .args in
-    let text = c .before .before .put-keys .ensures .0 ∙ roomy keysWord (a .part .now) (omega arith) in (
-      puts-same keysWord (lastText (a .number) (a .read)) (a .part .now) _ (ap (lastText (a .number))
-          (c .before .before .before .before .enum-told2 .given .1)) text,
-      omega arith,
-    )
+    let c4 = c .before .before .before .before in
+    let a = c4 .before .before .before .args in
+    let text = c .before .before .put-keys .ensures .0 ∙ roomy keysWord (a .part .now) (omega arith) in
+    (puts-same (lastText (a .number)) _ _ (a .part .now) _ (c4 .enum-told2 .given .1) text, omega arith)
 
 same-length-2 : tie.Need-same-length-2
 same-length-2 c = search needs
@@ -52,12 +47,8 @@ returns-3 : tie.Need-returns-3
 unfolding lastText
 returns-3 c =
     let c5 = c .before .before .before .before .before in
-    let c8 = c5 .before .before .before in
-    let a = c8 .args in (
-      puts-same (stoppedText (a .number) _) (lastText (a .number) (a .read)) (a .part .now) _ (ap (lastText (a .number))
-          (c5 .read .given .1)) (c .before .before .put-stopped .ensures .0),
-      omega arith,
-    )
+    let a = c5 .before .before .before .args in
+    (puts-same (lastText (a .number)) _ _ (a .part .now) _ (c5 .read .given .1) (c .before .before .put-stopped .ensures .0), omega arith)
 
 pub put-last-spec : {M : Type 1} → statement M
 put-last-spec =
