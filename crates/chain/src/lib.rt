@@ -6,7 +6,9 @@ ghost use Rattle.table.specs.Words.{memory};
 ghost use Rattle.chain.specs.Walking.{metOf, onwardFrom, walkedFrom};
 ghost use Rattle.chain.specs.Keys.{left, readKeys, keysOf};
 use record::Address;
+use record::HEAD;
 use record::Node;
+use record::TAIL;
 use words::Sizes;
 
 // What the walk along the chain meets after a node: a node to go on to, or why it stops.
@@ -34,7 +36,7 @@ pub enum Keys {
 fn judge(target: Node, used: bool, from: u64, to: u64) -> Met
     ensures { λ r. ⌜ r ≡ metOf target (eqb (target .0) 1) used (ltb from to) ⌝ }
 {
-    if target.0 == 1 {
+    if target.0 == TAIL.0 {
         return Met::Tail;
     }
     if used {
@@ -75,7 +77,7 @@ pub fn walk_on(addresses: &[u32], links: &[u32], count: u32, from: Node) -> Walk
 fn read_chain(addresses: &[u32], links: &[u32], count: u32, buffer: &mut [u32]) -> Keys
     ensures { λ r. ⌜ left (now (buffer .exit)) r ≡ readKeys (memory (now (addresses .entry)) (now (links .entry)) [] count) (now (buffer .entry)) ⌝ }
 {
-    let mut from = Node(0);
+    let mut from = HEAD;
     let mut read: usize = 0;
     loop {
         let met = onward(addresses, links, count, from);

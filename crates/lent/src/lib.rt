@@ -12,9 +12,9 @@ ghost use Rattle.list.specs.Acting.{left, actOn};
 ghost use Rattle.lent.specs.Lent.{actedOf, leaves, actIn};
 ghost use Rattle.lent.specs.Fresh.{freshTables, tablesLeft, freshList, listLeft};
 use record::Event;
-use record::Node;
 use record::Outcome;
 use record::Record;
+use record::TAIL;
 use words::Sizes;
 
 // What an event says to whoever lent the record or the row: the sizes after it, and its outcome.
@@ -129,7 +129,7 @@ fn fresh_links(links: &mut [u32], nodes: usize)
     ensures { λ _. ⌜ now (links .exit) ≡ over (freshMemory nodes .links) (now (links .entry)) ⌝ }
 {
     clear(links, nodes);
-    let tail = words::link_word(Node(1), false);
+    let tail = words::link_word(TAIL, false);
     links[0] = tail;
     links[1] = tail;
 }

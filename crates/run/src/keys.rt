@@ -9,17 +9,15 @@ use text::put_address;
 use text::put_newline;
 ghost use mathlib.Core.Path.{_≡_};
 ghost use mathlib.Core.Bool.{cond};
-ghost use mathlib.Core.List.{List, []};
-ghost use Prim.Native.Nat.{ℕ, _<_, _≤_, _-_};
+ghost use mathlib.Core.List.{[]};
+ghost use Prim.Native.Nat.{_<_, _≤_, _-_};
 ghost use lib.Dec.{eqb};
 ghost use lib.ListN.{length};
 ghost use Rattle.table.specs.Words.{memory};
 ghost use Rattle.chain.specs.Walking.{walkedFrom};
 ghost use Rattle.chain.specs.declared.Walked.the-variants.{Ends};
 ghost use Rattle.run.specs.declared.Phase.the-variants.{Walking};
-ghost use Rattle.run.specs.Filling.{stop, fillFrom};
-ghost use Rattle.run.specs.Pieces.{world, nextPiece};
-ghost use Rattle.run.specs.Parts.{Ready};
+ghost use Rattle.run.specs.Parts.{FilledOn, Ready};
 
 // One step of the walk, while it has steps left.
 fn walk_within(addresses: &[u32], links: &[u32], count: u32, from: Node, steps: u64) -> Walked
@@ -53,7 +51,7 @@ fn fill_addresses(
 ) -> Filled
     requires { ⌜ from ≤ length (now block) ⌝ }
     requires { ⌜ run .phase ≡ Walking node steps ⌝ }
-    ensures { λ r. ⌜ ((file deleters : List ℕ) (turns : ℕ) → length (now (block .entry)) - from < turns → stop (world (now (addresses .entry)) (now (links .entry)) deleters (r .run)) (now (block .exit)) (r .count) ≡ fillFrom (nextPiece file) turns (world (now (addresses .entry)) (now (links .entry)) deleters run) (now (block .entry)) from) ⌝ }
+    ensures { λ r. ⌜ FilledOn (now (addresses .entry)) (now (links .entry)) run (now (block .entry)) from (r .run) (now (block .exit)) (r .count) ⌝ }
     ensures { λ r. ⌜ r .count ≤ length (now (block .exit)) ⌝ }
 {
     let count = run.sizes.count;
@@ -87,7 +85,7 @@ pub(crate) fn fill_keys(
 ) -> Filled
     requires { ⌜ from ≤ length (now block) ⌝ }
     requires { ⌜ Ready (run .phase) (length (now block) - from) ⌝ }
-    ensures { λ r. ⌜ ((file deleters : List ℕ) (turns : ℕ) → length (now (block .entry)) - from < turns → stop (world (now (addresses .entry)) (now (links .entry)) deleters (r .run)) (now (block .exit)) (r .count) ≡ fillFrom (nextPiece file) turns (world (now (addresses .entry)) (now (links .entry)) deleters run) (now (block .entry)) from) ⌝ }
+    ensures { λ r. ⌜ FilledOn (now (addresses .entry)) (now (links .entry)) run (now (block .entry)) from (r .run) (now (block .exit)) (r .count) ⌝ }
     ensures { λ r. ⌜ r .count ≤ length (now (block .exit)) ⌝ }
 {
     let phase = run.phase;

@@ -7,9 +7,9 @@ ghost use mathlib.Core.List.{List};
 ghost use Prim.Native.Nat.{ℕ, _≤_, _-_};
 ghost use lib.ListN.{length};
 ghost use Rattle.run.specs.declared.Phase.the-variants.{Refusing};
-ghost use Rattle.run.specs.Filling.{Stop, stop, fillFrom};
-ghost use Rattle.run.specs.Pieces.{World, world, phase≔, nextPiece, fills, refusing, startOf, begins};
-ghost use Rattle.run.specs.Parts.{Reaches, Ready};
+ghost use Rattle.run.specs.Filling.{stop};
+ghost use Rattle.run.specs.Pieces.{world, phase≔, fills, refusing, startOf, begins};
+ghost use Rattle.run.specs.Parts.{LeftOff, Ready};
 use keys::fill_keys;
 use lent::Made;
 use lent::fresh_tables;
@@ -107,7 +107,8 @@ fn start_of(next: Cursor, made: Made) -> Run
 
 // A run at the start of a file: its header read, and the lent tables made fresh where it is accepted.
 pub fn begin(file: &[u8], addresses: &mut [u32], links: &mut [u32], deleters: &mut [u32]) -> Run
-    ensures { λ r. ⌜ world (now (addresses .exit)) (now (links .exit)) (now (deleters .exit)) r ≡ begins (now (file .entry)) (now (addresses .entry)) (now (links .entry)) (now (deleters .entry)) ⌝ }
+    ensures { λ r. ⌜ world (now (addresses .exit)) (now (links .exit)) (now (deleters .exit)) r ≡
+        begins (now (file .entry)) (now (addresses .entry)) (now (links .entry)) (now (deleters .entry)) ⌝ }
 {
     let cursor = Cursor::start();
     let read = read_header(file, cursor);
@@ -123,7 +124,8 @@ pub fn begin(file: &[u8], addresses: &mut [u32], links: &mut [u32], deleters: &m
 // The line of a refused header.
 fn fill_refusal(block: &mut [u8], run: Run, number: u8) -> Filled
     requires { ⌜ run .phase ≡ Refusing number ⌝ }
-    ensures { λ r. ⌜ ((file addresses links deleters : List ℕ) → Reaches (Stop World) (λ turns. fillFrom (nextPiece file) turns (world addresses links deleters (r .run)) (now (block .exit)) (r .count)) (fills file (world addresses links deleters run) (now (block .entry))) (length (now (block .exit)) - r .count)) ⌝ }
+    ensures { λ r. ⌜ ((file addresses links deleters : List ℕ) → LeftOff file (world addresses links deleters run) (now (block .entry))
+        (world addresses links deleters (r .run)) (now (block .exit)) (r .count)) ⌝ }
     ensures { λ r. ⌜ r .count ≤ length (now (block .exit)) ⌝ }
     ensures { λ r. ⌜ Ready (r .run .phase) (length (now (block .exit)) - r .count) ⌝ }
 {
@@ -144,7 +146,9 @@ fn fill_first(
     block: &mut [u8],
     run: Run,
 ) -> Filled
-    ensures { λ r. ⌜ Reaches (Stop World) (λ turns. fillFrom (nextPiece (now (file .entry))) turns (world (now (addresses .exit)) (now (links .exit)) (now (deleters .exit)) (r .run)) (now (block .exit)) (r .count)) (fills (now (file .entry)) (world (now (addresses .entry)) (now (links .entry)) (now (deleters .entry)) run) (now (block .entry))) (length (now (block .exit)) - r .count) ⌝ }
+    ensures { λ r. ⌜ LeftOff (now (file .entry))
+        (world (now (addresses .entry)) (now (links .entry)) (now (deleters .entry)) run) (now (block .entry))
+        (world (now (addresses .exit)) (now (links .exit)) (now (deleters .exit)) (r .run)) (now (block .exit)) (r .count) ⌝ }
     ensures { λ r. ⌜ r .count ≤ length (now (block .exit)) ⌝ }
     ensures { λ r. ⌜ Ready (r .run .phase) (length (now (block .exit)) - r .count) ⌝ }
 {
@@ -167,7 +171,8 @@ pub fn fill(
     block: &mut [u8],
     run: Run,
 ) -> Filled
-    ensures { λ r. ⌜ stop (world (now (addresses .exit)) (now (links .exit)) (now (deleters .exit)) (r .run)) (now (block .exit)) (r .count) ≡ fills (now (file .entry)) (world (now (addresses .entry)) (now (links .entry)) (now (deleters .entry)) run) (now (block .entry)) ⌝ }
+    ensures { λ r. ⌜ stop (world (now (addresses .exit)) (now (links .exit)) (now (deleters .exit)) (r .run)) (now (block .exit)) (r .count) ≡
+        fills (now (file .entry)) (world (now (addresses .entry)) (now (links .entry)) (now (deleters .entry)) run) (now (block .entry)) ⌝ }
     ensures { λ r. ⌜ r .count ≤ length (now (block .exit)) ⌝ }
 {
     let first = fill_first(file, addresses, links, deleters, block, run);

@@ -5,7 +5,7 @@ use crate::Run;
 use list::act;
 use list::process_of;
 use record::Event;
-use record::Node;
+use record::HEAD;
 use record::Outcome;
 use record::Process;
 use record::Record;
@@ -14,6 +14,7 @@ use schedule::EventRead;
 use schedule::read_event;
 use text::put_keys;
 use text::put_line;
+use words::ABOVE_ALL;
 use words::Sizes;
 ghost use mathlib.Core.Path.{_≡_};
 ghost use Prim.Native.Nat.{_<_, _≤_, _-_};
@@ -21,9 +22,8 @@ ghost use lib.ListN.{length};
 ghost use Rattle.record.specs.Event.{processOf};
 ghost use Rattle.text.specs.Put.{put, puts};
 ghost use Rattle.run.specs.declared.Phase.the-variants.{Acting};
-ghost use Rattle.run.specs.Filling.{Stop, fillFrom};
-ghost use Rattle.run.specs.Pieces.{World, world, runOf, nextNumber, nextPiece, fills};
-ghost use Rattle.run.specs.Parts.{Reaches, Ready, slotOf, stoppedText, lastText};
+ghost use Rattle.run.specs.Pieces.{world, runOf, nextNumber};
+ghost use Rattle.run.specs.Parts.{LeftOff, Ready, slotOf, stoppedText, lastText};
 
 // The place of a process's record in the row.
 fn slot(process: Process) -> usize
@@ -109,7 +109,9 @@ pub(crate) fn fill_lines(
     run: Run,
 ) -> Filled
     requires { ⌜ run .phase ≡ Acting ⌝ }
-    ensures { λ r. ⌜ Reaches (Stop World) (λ turns. fillFrom (nextPiece (now (file .entry))) turns (world (now (addresses .exit)) (now (links .exit)) (now (deleters .exit)) (r .run)) (now (block .exit)) (r .count)) (fills (now (file .entry)) (world (now (addresses .entry)) (now (links .entry)) (now (deleters .entry)) run) (now (block .entry))) (length (now (block .exit)) - r .count) ⌝ }
+    ensures { λ r. ⌜ LeftOff (now (file .entry))
+        (world (now (addresses .entry)) (now (links .entry)) (now (deleters .entry)) run) (now (block .entry))
+        (world (now (addresses .exit)) (now (links .exit)) (now (deleters .exit)) (r .run)) (now (block .exit)) (r .count) ⌝ }
     ensures { λ r. ⌜ r .count ≤ length (now (block .exit)) ⌝ }
     ensures { λ r. ⌜ Ready (r .run .phase) (length (now (block .exit)) - r .count) ⌝ }
 {
@@ -125,7 +127,7 @@ pub(crate) fn fill_lines(
         let read = read_event(file, cursor);
         let EventRead::Got(event, next) = read else {
             let m = put_last(&mut block[at..], number, read);
-            let walking = Phase::Walking(Node(0), 4294967297);
+            let walking = Phase::Walking(HEAD, ABOVE_ALL);
             return filled_to(at + m, walking, cursor, sizes, number, row);
         };
         let p = slot_for(event);

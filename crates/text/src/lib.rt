@@ -10,7 +10,9 @@ ghost use Rattle.text.specs.Digits.{lastDigits, word, pairsOf, tens, Beg
 ghost use Rattle.text.specs.Put.{put, puts, putInto};
 ghost use Rattle.record.specs.declared.Outcome.the-variants.{Refused, Answered};
 use record::Address;
+use record::FALSE;
 use record::Outcome;
+use record::TRUE;
 
 // How many decimal digits a number has; those of a long run's lines are told first.
 fn places(n: u32) -> usize
@@ -31,6 +33,7 @@ fn places(n: u32) -> usize
     10
 }
 
+// Those of a short number.
 fn places_few(n: u32) -> usize
     requires { ⌜ n < 1000000 ⌝ }
     ensures { λ r. ⌜ r ≡ length (decimal n) ⌝ }
@@ -64,7 +67,7 @@ fn put_decimal(part: &mut [u8], n: u32) -> usize
     let mut rest = n;
     while 0 < i {
         i -= 1;
-        part[i] = 48 + (rest % 10) as u8;
+        part[i] = b'0' + (rest % 10) as u8;
         rest = rest / 10;
     }
     count
@@ -145,6 +148,7 @@ fn put_number(part: &mut [u8], n: u32) -> usize
     count
 }
 
+// A text, byte for byte.
 fn put_text(part: &mut [u8], text: &[u8]) -> usize
     requires { ⌜ length (now text) ≤ length (now part) ⌝ }
     ensures { λ r. ⌜ put (now (part .exit)) r ≡ puts (now (text .entry)) (now (part .entry)) ⌝ }
@@ -158,6 +162,7 @@ fn put_text(part: &mut [u8], text: &[u8]) -> usize
     i
 }
 
+// One byte.
 fn put_byte(part: &mut [u8], byte: u8) -> usize
     requires { ⌜ 1 ≤ length (now part) ⌝ }
     ensures { λ r. ⌜ put (now (part .exit)) r ≡ puts (byte ∷ []) (now (part .entry)) ⌝ }
@@ -174,12 +179,12 @@ fn put_ended(part: &mut [u8], n: u32) -> usize
     ensures { λ r. ⌜ r ≤ 11 ⌝ }
 {
     if n < 10 {
-        part[0] = 48 + n as u8;
-        part[1] = 10;
+        part[0] = b'0' + n as u8;
+        part[1] = b'\n';
         return 2;
     }
     let k = put_decimal(part, n);
-    part[k] = 10;
+    part[k] = b'\n';
     k + 1
 }
 
@@ -200,10 +205,10 @@ fn put_answer(part: &mut [u8], answer: u8) -> usize
     ensures { λ r. ⌜ put (now (part .exit)) r ≡ puts (space ∷ outcomeText (Answered answer) ++ (newline ∷ [])) (now (part .entry)) ⌝ }
     ensures { λ r. ⌜ r ≤ 20 ⌝ }
 {
-    if answer == 1 {
+    if answer == FALSE {
         return put_text(part, b" false\n");
     }
-    if answer == 2 {
+    if answer == TRUE {
         return put_text(part, b" true\n");
     }
     put_text(part, b" fail\n")
@@ -254,7 +259,7 @@ pub fn put_address(part: &mut [u8], address: Address) -> usize
     if part.len() < 32 {
         return 0;
     }
-    let k = put_byte(part, 32);
+    let k = put_byte(part, b' ');
     let m = put_decimal(&mut part[k..], address.0);
     k + m
 }
@@ -267,5 +272,5 @@ pub fn put_newline(part: &mut [u8]) -> usize
     if part.len() < 32 {
         return 0;
     }
-    put_byte(part, 10)
+    put_byte(part, b'\n')
 }
