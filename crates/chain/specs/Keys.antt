@@ -16,8 +16,8 @@ use Rattle.chain.specs.declared.Keys.the-variants.{Refused, Read}
 use Rattle.chain.specs.declared.Met.{Met}
 use Rattle.chain.specs.Walking.{onwardFrom}
 
--- "Where an answer is an enum, a definition sets out this paper's number and values for each of its cases.": how many addresses were read and what the
--- walk met after the last of them; where none were, 7: "sizes outside the limits, a lent table too short, count below 2 or above the nodes"
+-- "Where an answer is an enum, a definition sets out this paper's number and values for each of its cases.": how many addresses were read and what
+-- the walk met after the last of them; where none were, 7: "sizes outside the limits, a lent table too short, count below 2 or above the nodes"
 abbrev pub keysFrom : Option (ℕ × Met) → Keys
 keysFrom none = Refused 7
 keysFrom (some (read, met)) = Read read met

@@ -26,7 +26,8 @@ abbrev pub walkedOf : Option (Node × Address) → Walked
 walkedOf none = Ends
 walkedOf (some (onto, a)) = Onto onto a
 
--- what the target of the node's link is to the walk; that there is a next node exactly where the table's `goesOn` says is proved (`next-goes`, `stopped`)
+-- what the target of the node's link is to the walk; that there is a next node exactly where the table's `goesOn` says is proved (`next-goes`,
+-- `stopped`)
 unfoldable pub onwardFrom : Memory → Node → Met
 onwardFrom m from =
     let onto = targetOf (linkAt m from) in

@@ -103,7 +103,8 @@ examples =
     ∷ (run 8 2 (delete 0 485 ∷ stop 0 ∷ []) (restart 0 ∷ steps 0 2) gives ends 2 (answers 2 Fail))
     ∷ (run 8 2 (insert 0 485 ∷ stop 0 ∷ []) (restart 0 ∷ steps 0 5) gives ends 3 (answers 5 Fail))
     -- 9. two processes have both passed place 5 on one node; 0 marks and goes down; 1 finishes true; 0 recovers with fail at step 5
-    ∷ (run 8 2 (sole ++ (delete 0 485 ∷ delete 1 485 ∷ steps 0 4 ++ (steps 1 4 ++ (steps 0 2 ++ (stop 0 ∷ []))))) (steps 1 7 ++ (restart 0 ∷ steps 0 5))
+    ∷ (run 8 2 (sole ++ (delete 0 485 ∷ delete 1 485 ∷ steps 0 4 ++ (steps 1 4 ++ (steps 0 2 ++ (stop 0 ∷ [])))))
+    (steps 1 7 ++ (restart 0 ∷ steps 0 5))
     gives ends 3 (answers 6 True ++ answers 5 Fail))
     -- 10. two nodes: insert refused 3, delete accepted. Running process, full table, insert: 2
     ∷ (run 2 2 [] (insert 0 485 ∷ delete 0 485 ∷ insert 0 485 ∷ []) gives ends 2 (Refused 3 ∷ Accepted ∷ Refused 2 ∷ []))

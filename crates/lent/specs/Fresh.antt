@@ -45,7 +45,8 @@ unfoldable pub freshTables : List ℕ → List ℕ → List ℕ → (nodes proce
 freshTables addresses links deleters nodes processes =
     let σ = fresh nodes processes in
     cond (freshFits addresses links deleters nodes processes)
-    (tablesLeft (over (σ .memory .addresses) addresses) (over (σ .memory .links) links) (over (σ .memory .deleters) deleters) (madeOf (some (sizesOf σ))))
+    (tablesLeft (over (σ .memory .addresses) addresses) (over (σ .memory .links) links) (over (σ .memory .deleters) deleters)
+    (madeOf (some (sizesOf σ))))
     (tablesLeft addresses links deleters (madeOf none))
 
 -- ---- the tables and the row

@@ -65,7 +65,8 @@ fn insert(
 ) -> Acted
     requires { ⌜ Within sizes ⌝ }
     ensures { λ r. ⌜ left (now (addresses .exit)) (now (links .exit)) (now (deleters .exit)) r ≡
-        leftOf sizes (does (sizes .nodes) (lentMemory (now (addresses .entry)) (now (links .entry)) (now (deleters .entry)) sizes) old (of.Insert p address)) ⌝ }
+        leftOf sizes (does (sizes .nodes) (lentMemory (now (addresses .entry)) (now (links .entry)) (now (deleters .entry)) sizes) old
+        (of.Insert p address)) ⌝ }
 {
     let taken = Node(sizes.count);
     let given = Sizes {

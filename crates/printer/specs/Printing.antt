@@ -1,4 +1,5 @@
--- What printing a run leaves of the lent tables. What it writes is not for a contract to say; it writes each block as it was filled. Rests on the run.
+-- What printing a run leaves of the lent tables. What it writes is not for a contract to say; it writes each block as it was filled.
+-- Rests on the run.
 use mathlib.Core.Path.{_≡_}
 use mathlib.Core.Bool.{Bool, true}
 use mathlib.Core.List.{List}

@@ -13,7 +13,9 @@ pub fn print_output(
     deleters: &mut [u32],
     block: &mut [u8],
 ) -> bool
-    ensures { λ r. ⌜ Printed (now (file .entry)) (begins (now (file .entry)) (now (addresses .entry)) (now (links .entry)) (now (deleters .entry))) (length (now (block .entry))) (now (addresses .exit)) (now (links .exit)) (now (deleters .exit)) r ⌝ }
+    ensures { λ r. ⌜ Printed (now (file .entry))
+        (begins (now (file .entry)) (now (addresses .entry)) (now (links .entry)) (now (deleters .entry))) (length (now (block .entry)))
+        (now (addresses .exit)) (now (links .exit)) (now (deleters .exit)) r ⌝ }
 {
     let mut run = begin(file, addresses, links, deleters);
     loop {

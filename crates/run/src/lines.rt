@@ -109,9 +109,8 @@ pub(crate) fn fill_lines(
     run: Run,
 ) -> Filled
     requires { ⌜ run .phase ≡ Acting ⌝ }
-    ensures { λ r. ⌜ LeftOff (now (file .entry))
-        (world (now (addresses .entry)) (now (links .entry)) (now (deleters .entry)) run) (now (block .entry))
-        (world (now (addresses .exit)) (now (links .exit)) (now (deleters .exit)) (r .run)) (now (block .exit)) (r .count) ⌝ }
+    ensures { λ r. ⌜ LeftOff (now (file .entry)) (world (now (addresses .entry)) (now (links .entry)) (now (deleters .entry)) run)
+        (now (block .entry)) (world (now (addresses .exit)) (now (links .exit)) (now (deleters .exit)) (r .run)) (now (block .exit)) (r .count) ⌝ }
     ensures { λ r. ⌜ r .count ≤ length (now (block .exit)) ⌝ }
     ensures { λ r. ⌜ Ready (r .run .phase) (length (now (block .exit)) - r .count) ⌝ }
 {

@@ -16,7 +16,8 @@ use Rattle.record.specs.declared.Event.{Event}
 use Rattle.record.specs.declared.Event.the-variants.{Insert, Delete, Find, Step, Stop, Restart}
 use Rattle.record.specs.declared.Outcome.{Outcome}
 use Rattle.record.specs.declared.Outcome.the-variants.{Refused, Accepted, Answered}
-use Rattle.table.specs.Words.{Memory, addressAt, linkAt, deleterAt, linkWord, targetOf, isMarked, noDeleter, deleterWord, inUse, addressLimit, rank}
+use Rattle.table.specs.Words.{Memory, addressAt, linkAt, deleterAt, linkWord, targetOf, isMarked, noDeleter, deleterWord, inUse}
+use Rattle.table.specs.Words.{addressLimit, rank}
 use Rattle.table.specs.Chain.{OnChain, Struck, Held}
 use Rattle.table.specs.Events.{State, event, recordIn, sizesFit, tablesFit, fresh}
 use Rattle.table.specs.History.{Kind, insert, delete, find, Answer, Operation, Set, History, Order}
@@ -111,7 +112,8 @@ module _ (σ₀ : State) (e : ℕ → Event) where
     pub process : Process
     pub address : Address
     pub time : ℕ
-    pub asked : operation T r ≡ some (record { process = process; kind = delete; address = address; answer = some (record { time = time; value = True }) })
+    pub asked : operation T r ≡ some
+        (record { process = process; kind = delete; address = address; answer = some (record { time = time; value = True }) })
     pub node : recordIn (at time) process .kept .node ≡ n
 
   -- event t marked n

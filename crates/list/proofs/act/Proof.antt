@@ -19,8 +19,10 @@ first-refusal-requires c κs = search needs
 does-requires : tie.Need-does-requires
 does-requires c κs =
     let judged = c .before .before .before .before in
-    able _ _ _ _ (judged .before .before .before .before .before .before .before .before .before .before .before .before .before .args .«record») (judged .before .before .before .before .before .before .before .before .before .before .before .before .before .args .event) _ _ _ _
-    (judged .before .before .before .before .before .before .tables-fit .ensures) (judged .before .before .before .before .before .process-of .ensures)
+    able _ _ _ _ (judged .before .before .before .before .before .before .before .before .before .before .before .before .before .args .«record»)
+    (judged .before .before .before .before .before .before .before .before .before .before .before .before .before .args .event) _ _ _ _
+    (judged .before .before .before .before .before .before .tables-fit .ensures)
+    (judged .before .before .before .before .before .process-of .ensures)
     (judged .before .before .status-needed .ensures) (judged .first-refusal .ensures)
     (c .before .before .before .if1 .taken)
 
@@ -36,10 +38,13 @@ same-length-3 c = search needs
 returns : tie.Need-returns
 returns c =
     let judged = c .before .before .before .before .before .before .before .before .before .before .before in
-    acts _ _ _ _ (judged .before .before .before .before .before .before .before .before .before .before .before .before .before .args .«record») (judged .before .before .before .before .before .before .before .before .before .before .before .before .before .args .event) _ _ _ _
-    (judged .before .before .before .before .before .before .tables-fit .ensures) (judged .before .before .before .before .before .process-of .ensures)
+    acts _ _ _ _ (judged .before .before .before .before .before .before .before .before .before .before .before .before .before .args .«record»)
+    (judged .before .before .before .before .before .before .before .before .before .before .before .before .before .args .event) _ _ _ _
+    (judged .before .before .before .before .before .before .tables-fit .ensures)
+    (judged .before .before .before .before .before .process-of .ensures)
     (judged .before .before .status-needed .ensures) (judged .first-refusal .ensures)
-    (c .before .before .before .before .before .before .before .before .before .before .if1 .taken) _ (c .before .before .before .before .before .before .does .ensures)
+    (c .before .before .before .before .before .before .before .before .before .before .if1 .taken) _
+    (c .before .before .before .before .before .before .does .ensures)
 
 refused-requires : tie.Need-refused-requires
 refused-requires c κs = search needs
@@ -56,8 +61,10 @@ same-length-6 c = search needs
 returns-2 : tie.Need-returns-2
 returns-2 c =
     let judged = c .before .before in
-    refuses _ _ _ _ (judged .before .before .before .before .before .before .before .before .before .before .before .before .before .args .«record») (judged .before .before .before .before .before .before .before .before .before .before .before .before .before .args .event) _ _ _ _
-    (judged .before .before .before .before .before .before .tables-fit .ensures) (judged .before .before .before .before .before .process-of .ensures)
+    refuses _ _ _ _ (judged .before .before .before .before .before .before .before .before .before .before .before .before .before .args .«record»)
+    (judged .before .before .before .before .before .before .before .before .before .before .before .before .before .args .event) _ _ _ _
+    (judged .before .before .before .before .before .before .tables-fit .ensures)
+    (judged .before .before .before .before .before .process-of .ensures)
     (judged .before .before .status-needed .ensures) (judged .first-refusal .ensures)
     (c .before .if1 .left) _ (c .refused .ensures)
 

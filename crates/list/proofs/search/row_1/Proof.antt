@@ -46,7 +46,8 @@ judged-requires c κs = search needs
 returns : tie.Need-returns
 returns c deleters p =
     let ended = c .before .before .before .before .before .before .before .before .before .before .before .before .before .before in
-    scanned _ _ deleters _ p _ (ended .before .before .before .before .before .before .before .before .before .before .before .pre) _ _ _ _ _ _ _ _ _ _ _ _ _
+    scanned _ _ deleters _ p _ (ended .before .before .before .before .before .before .before .before .before .before .before .pre) _ _ _ _ _ _ _ _ _
+    _ _ _ _
     (ended .before .before .before .before .before .before .in-use .ensures)
     (ended .before .before .before .before .before .read-link .ensures)
     (ended .before .before .before .before .compare .ensures)
