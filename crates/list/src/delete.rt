@@ -9,10 +9,8 @@ ghost use Prim.Native.Nat.{_<_};
 use crate::Acted;
 use crate::access;
 use crate::answers;
-use record::FALSE;
 use record::Process;
 use record::Record;
-use record::TRUE;
 use words::Sizes;
 
 // Place 5: write curr as the record's node.
@@ -92,8 +90,7 @@ pub(crate) fn row_10(deleters: &[u32], sizes: Sizes, p: Process, old: Record) ->
     let curr = old.lost.curr;
     let accepted = words::in_use(curr, sizes.count);
     let mine = access::read_deleter(deleters, curr, p);
-    let answer = answers::pick(mine, TRUE, FALSE);
-    answers::turn(accepted, sizes, old, old.goes_with(18, answer))
+    answers::turn(accepted, sizes, old, old.told_by_deleter(mine))
 }
 
 // Places 5 to 10.

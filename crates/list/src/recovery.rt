@@ -17,7 +17,6 @@ use record::NO_NODE;
 use record::Outcome;
 use record::Process;
 use record::Record;
-use record::TRUE;
 use words::Sizes;
 
 // Place 13: read own record: it has its answer, it searches, it looks at its node, or it fails.
@@ -53,9 +52,7 @@ pub(crate) fn row_14(links: &[u32], sizes: Sizes, old: Record) -> Acted
 {
     let own = old.kept.node;
     let read = access::read_link(links, sizes, access::own_in_use(own, sizes.count), own);
-    let place = answers::pick(read.mark, 18, 19);
-    let answer = answers::pick(read.mark, TRUE, FAIL);
-    answers::turn(read.accepted, sizes, old, old.goes_with(place, answer))
+    answers::turn(read.accepted, sizes, old, old.recovers(read.mark))
 }
 
 // Place 15: read own link.
@@ -95,9 +92,7 @@ pub(crate) fn row_17(deleters: &[u32], sizes: Sizes, p: Process, old: Record) ->
     let own = old.kept.node;
     let accepted = access::own_in_use(own, sizes.count);
     let mine = access::read_deleter(deleters, own, p);
-    let place = answers::pick(mine, 18, 19);
-    let answer = answers::pick(mine, TRUE, FAIL);
-    answers::turn(accepted, sizes, old, old.goes_with(place, answer))
+    answers::turn(accepted, sizes, old, old.recovers(mine))
 }
 
 // Place 18: the pending answer is written as the kept result.

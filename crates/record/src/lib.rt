@@ -5,7 +5,7 @@ ghost use mathlib.Core.Bool.{cond};
 ghost use lib.Dec.{eqb};
 ghost use Rattle.record.specs.Event.{refusalIn};
 ghost use Rattle.record.specs.Record.{lostAt, lostPart, recordOf, _▸_, _with_, to, pred≔, curr≔, succ≔, node≔, result≔, status≔};
-ghost use Rattle.record.specs.Record.{freshRecord, requested, wentDown, restarted, headNode, Idle};
+ghost use Rattle.record.specs.Record.{freshRecord, requested, wentDown, restarted, headNode, Idle, False, True, Fail};
 
 // A node of the table: head is 0, tail 1.
 pub struct Node(pub u32);
@@ -246,6 +246,16 @@ impl Record {
         self.with_lost(lost.pred, lost.curr, target, place, lost.pending)
     }
 
+    // Row 10: by whether the deleter is the process.
+    pub fn told_by_deleter(self, mine: bool) -> Record
+        ensures { λ r. ⌜ r ≡ cond mine (self ▸ 18 with True) (self ▸ 18 with False) ⌝ }
+    {
+        if mine {
+            return self.goes_with(18, TRUE);
+        }
+        self.goes_with(18, FALSE)
+    }
+
     // Row 11: curr is the target; to a place with an answer.
     pub fn walked(self, target: Node, place: u8, answer: u8) -> Record
         ensures { λ r. ⌜ r ≡ (self ▸ curr≔ target ▸ place with answer) ⌝ }
@@ -264,6 +274,16 @@ impl Record {
         self.kept = kept;
         self.lost.place = 6;
         self
+    }
+
+    // Rows 14 and 17: by the mark of the record's node, or by whether its deleter is the process.
+    pub fn recovers(self, won: bool) -> Record
+        ensures { λ r. ⌜ r ≡ cond won (self ▸ 18 with True) (self ▸ 19 with Fail) ⌝ }
+    {
+        if won {
+            return self.goes_with(18, TRUE);
+        }
+        self.goes_with(19, FAIL)
     }
 
     // Row 18: the pending answer is written as the kept result; to 19.

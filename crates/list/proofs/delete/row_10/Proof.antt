@@ -2,7 +2,7 @@
 use mathlib.Core.Path.{refl}
 use mathlib.Core.Bool.{cond}
 use Rattle.record.specs.Record.{_▸_, _with_}
-use Rattle.list.proofs.Turns.{read-deleter, bools}
+use Rattle.list.proofs.Turns.{read-deleter}
 use Rattle.table.specs.Places.{row, placeOf, curr}
 use borrow.Author.Needs.{needs}
 use Rattle.list.proofs.delete.row_10.Statement.{statement}
@@ -14,11 +14,8 @@ in-use-requires c κs = search needs
 read-deleter-requires : tie.Need-read-deleter-requires
 read-deleter-requires c κs = search needs
 
-pick-requires : tie.Need-pick-requires
-pick-requires c κs = search needs
-
-goes-with-requires : tie.Need-goes-with-requires
-goes-with-requires c κs = search needs
+told-by-deleter-requires : tie.Need-told-by-deleter-requires
+told-by-deleter-requires c κs = search needs
 
 turn-requires : tie.Need-turn-requires
 turn-requires c κs = search needs
@@ -28,13 +25,12 @@ unfolding row placeOf
 returns c addresses links =
     rw (
       c .turn .ensures,
-      c .before .goes-with .ensures,
-      c .before .before .pick .ensures,
-      c .before .before .before .read-deleter .ensures,
-      c .before .before .before .before .in-use .ensures,
+      c .before .told-by-deleter .ensures,
+      c .before .before .read-deleter .ensures,
+      c .before .before .before .in-use .ensures,
     )
-    (read-deleter addresses links _ _ _ _ 10 (c .before .before .before .before .before .before .before .pre .0) curr _
-    (λ r mine. r ▸ 18 with cond mine 2 1) refl (bools _ refl refl))
+    (read-deleter addresses links _ _ _ _ 10 (c .before .before .before .before .before .before .pre .0) curr _
+    (λ r mine. cond mine (r ▸ 18 with 2) (r ▸ 18 with 1)) refl (λ mine. refl))
 
 pub row-10-spec : {M : Type 1} → statement M
 row-10-spec =
@@ -42,7 +38,6 @@ row-10-spec =
     (tie.spec
     in-use-requires
     read-deleter-requires
-    pick-requires
-    goes-with-requires
+    told-by-deleter-requires
     turn-requires
     returns)

@@ -2,7 +2,7 @@
 use mathlib.Core.Path.{refl}
 use mathlib.Core.Bool.{cond}
 use Rattle.record.specs.Record.{_▸_, _with_}
-use Rattle.list.proofs.Turns.{read-link, bools}
+use Rattle.list.proofs.Turns.{read-link}
 use Rattle.list.specs.Parts.{readOf}
 use Rattle.table.specs.Places.{row, placeOf, own}
 use borrow.Author.Needs.{needs}
@@ -15,14 +15,8 @@ own-in-use-requires c κs = search needs
 read-link-requires : tie.Need-read-link-requires
 read-link-requires c κs = search needs
 
-pick-requires : tie.Need-pick-requires
-pick-requires c κs = search needs
-
-pick-requires-2 : tie.Need-pick-requires-2
-pick-requires-2 c κs = search needs
-
-goes-with-requires : tie.Need-goes-with-requires
-goes-with-requires c κs = search needs
+recovers-requires : tie.Need-recovers-requires
+recovers-requires c κs = search needs
 
 turn-requires : tie.Need-turn-requires
 turn-requires c κs = search needs
@@ -32,14 +26,12 @@ unfolding row placeOf readOf
 returns c addresses deleters p =
     rw (
       c .turn .ensures,
-      c .before .goes-with .ensures,
-      c .before .before .pick2 .ensures,
-      c .before .before .before .pick .ensures,
-      c .before .before .before .before .read-link .ensures,
-      c .before .before .before .before .before .own-in-use .ensures,
+      c .before .recovers .ensures,
+      c .before .before .read-link .ensures,
+      c .before .before .before .own-in-use .ensures,
     )
-    (read-link addresses _ deleters _ p _ 14 (c .before .before .before .before .before .before .before .before .pre) own _
-    (λ r target mark. r ▸ cond mark 18 19 with cond mark 2 3) refl (λ target. bools _ refl refl))
+    (read-link addresses _ deleters _ p _ 14 (c .before .before .before .before .before .before .pre) own _
+    (λ r target mark. cond mark (r ▸ 18 with 2) (r ▸ 19 with 3)) refl (λ target mark. refl))
 
 pub row-14-spec : {M : Type 1} → statement M
 row-14-spec =
@@ -47,8 +39,6 @@ row-14-spec =
     (tie.spec
     own-in-use-requires
     read-link-requires
-    pick-requires
-    pick-requires-2
-    goes-with-requires
+    recovers-requires
     turn-requires
     returns)
