@@ -11,7 +11,7 @@ use Rattle.record.specs.declared.Outcome.the-variants as outcome
 use Rattle.table.specs.Words.{memory, freshMemory}
 use Rattle.table.specs.Events.{State, stateOf, fresh, sizesFit}
 use Rattle.table.proofs.Numbered.{Room}
-use Rattle.table.proofs.Fitting.{fit-of}
+use Rattle.table.proofs.Fitting.{limits-of, fit-of}
 use Rattle.table.proofs.LawsSizes.{longerState}
 use Rattle.schedule.specs.declared.Header.{Header}
 use Rattle.schedule.specs.declared.Cursor.{Cursor}
