@@ -19,20 +19,22 @@ use record::Process;
 use record::Record;
 use words::Sizes;
 
-// Whether the fields of a record are in their ranges.
+// Whether the fields of a record are in their ranges. Only the places of a search look at the kind, and only the last two at the answer, so
+// that the places between are done with first tests alone.
 fn in_range(old: Record) -> bool
     ensures { λ r. ⌜ r ≡ inRange old ⌝ }
 {
     let place = old.lost.place;
     let pending = old.lost.pending;
     let kind = old.kept.kind;
-    (place <= 19)
-        & (kind <= 2)
-        & (pending <= 3)
-        & (old.kept.result <= 2)
-        & !((place == 18) & ((pending == NO_ANSWER) | (pending == FAIL)))
-        & !((place == 19) & (pending == NO_ANSWER))
-        & !((place <= 2) & (kind == FINDS))
+    let ranged = (place <= 19) & (kind <= 2) & (pending <= 3) & (old.kept.result <= 2);
+    if place <= 2 {
+        return ranged & (kind != FINDS);
+    }
+    if place < 18 {
+        return ranged;
+    }
+    ranged & (pending != NO_ANSWER) & ((place != 18) | (pending != FAIL))
 }
 
 // The row of a record whose fields are in their ranges.
