@@ -1,6 +1,5 @@
 -- 01's examples 1 to 10, those marked P: one table under one statement, computed from the definitions that the promises cite.
 use mathlib.Core.Path.{_≡_, refl}
-use mathlib.Core.Bool.{true, false}
 use mathlib.Core.List.{List, [], _∷_, _++_, map}
 use Prim.Native.Nat.{ℕ}
 use lib.ListN.{replicate}

@@ -15,7 +15,7 @@ use Rattle.record.specs.declared.Node.{Node}
 use Rattle.record.specs.declared.Event.{Event}
 use Rattle.record.specs.declared.Outcome.the-variants as outcome
 use Rattle.table.specs.Words.{Memory, memory, linkAt, addressAt}
-use Rattle.table.specs.Events.{State, Acted, act, acted, sizesFit, tablesFit, event, stored, recordIn, Leaves}
+use Rattle.table.specs.Events.{State, Acted, act, sizesFit, tablesFit, event, stored, recordIn, Leaves}
 use Rattle.table.proofs.Meets.{refused-anywhere}
 use Rattle.list.specs.Acting.{Left, actOn}
 use Rattle.schedule.specs.declared.Cursor.{Cursor}
