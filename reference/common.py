@@ -3,6 +3,7 @@ lines, the build of the reference, and the reader of the hand-worked cases."""
 
 import os
 import subprocess
+import sys
 
 HERE = os.path.dirname(os.path.abspath(__file__))
 FIELDS = ("place", "pred", "curr", "succ", "pending", "recovering",
@@ -54,7 +55,10 @@ def build(folder):
     """Builds the reference into the folder and gives the program's path."""
     program = os.path.join(folder, "reference")
     source = os.path.join(HERE, "reference.c")
-    subprocess.run(["cc", "-O2", "-std=c11", "-Wall", "-Wextra", "-o", program, source], check=True)
+    try:
+        subprocess.run(["cc", "-O2", "-std=c11", "-Wall", "-Wextra", "-o", program, source], check=True)
+    except FileNotFoundError:
+        sys.exit("no C compiler: the reference is built with cc")
     return program
 
 
