@@ -19,8 +19,7 @@ use record::Process;
 use record::Record;
 use words::Sizes;
 
-// Whether the fields of a record are in their ranges. Only the places of a search look at the kind, and only the last two at the answer, so
-// that the places between are done with first tests alone.
+// Whether the fields of a record are in their ranges: those of any place, then the kind at the places of a search, the answer at the last two.
 fn in_range(old: Record) -> bool
     ensures { λ r. ⌜ r ≡ inRange old ⌝ }
 {
