@@ -17,18 +17,19 @@ use Rattle.schedule.specs.declared.Header.{Header}
 use Rattle.schedule.specs.declared.Cursor.{Cursor}
 use Rattle.schedule.specs.declared.HeaderRead.{HeaderRead}
 use Rattle.schedule.specs.declared.HeaderRead.the-variants as header
-use Rattle.schedule.specs.Numbers.{Read, got, stops, readNumber}
+use Rattle.numbers.specs.Numbers.{Read, got, stops, readNumber}
 use Rattle.schedule.specs.Encoding.{eventsOf}
 use Rattle.schedule.specs.Reading.{Reading, file, badHeader, readHeader, readFile}
-use Rattle.schedule.specs.Cursors.{start, placeIn, headerRead, headerAt}
+use Rattle.numbers.specs.Places.{placeIn}
+use Rattle.schedule.specs.Cursors.{start, headerRead, headerAt}
 use Rattle.record.specs.Over.{over}
 use Rattle.lent.specs.Fresh.{tablesLeft, freshFits, freshTables, sizesOf}
 use Rattle.lent.specs.declared.Made.{Made}
 use Rattle.lent.specs.declared.Made.the-variants.{Fresh, Refused}
 use Rattle.files.specs.Comes.{comes, ends}
 use Rattle.table.proofs.Tests.{if, if-lt}
-use Rattle.schedule.proofs.Follows.{Tells, after}
-use Rattle.schedule.proofs.Follows.{number-takes}
+use Rattle.numbers.proofs.Follows.{Tells, after}
+use Rattle.numbers.proofs.Follows.{number-takes}
 use Rattle.files.proofs.Comes.{HeaderAnswer, header-tells}
 use Rattle.files.proofs.Count.{comes-few}
 use Rattle.text.specs.Text.{line}

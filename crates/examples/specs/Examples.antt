@@ -13,7 +13,7 @@ use Rattle.table.specs.Words.{addressAt, linkAt, deleterAt, rank, written, give
 use Rattle.table.specs.Places.{placeOf, searchEnds, row}
 use Rattle.table.specs.Steps.{wordMet, inRange, turnIn}
 use Rattle.table.specs.Events.{fresh, outcomes, runs, event, stored, recordIn, act, tablesFit, sizesFit, does, stepOf}
-use Rattle.schedule.specs.Numbers.{Read, got, stops, numberBytes, groups, readNumber, moreGroups, _then_}
+use Rattle.numbers.specs.Numbers.{Read, got, stops, numberBytes, groups, readNumber, moreGroups, _then_}
 
 -- ---- what an example shows
 

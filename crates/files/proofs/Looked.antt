@@ -7,7 +7,7 @@ use native.Mathlib.Omega.{arith}
 use lib.ListN.{length}
 use lib.Seq.{append-snoc}
 use Rattle.table.proofs.Tests.{if-lt}
-use Rattle.schedule.specs.Numbers.{groups, numberBytes}
+use Rattle.numbers.specs.Numbers.{groups, numberBytes}
 use Rattle.schedule.specs.Reading.{end, refuses, nextItem}
 use Rattle.files.specs.Fits.{Bytes, Fits32}
 use Rattle.files.specs.Refusals.{Promise, Missing, Faulty, AtNumber, at-kind, at-process, at-last}

@@ -9,8 +9,8 @@ use borrow.Author.Tests.{lt-ltb, le-ltb, ne-eqb, ltb-true, ltb-false, eqb-true, 
 use lib.Dec.{ltb, eqb}
 use lib.ListN.{length}
 use Rattle.table.proofs.Tests.{if-lt, if-eq}
-use Rattle.schedule.specs.Numbers.{groups, numberBytes, Read, got, stops, _then_, lowest, moreGroups, readNumber}
-use Rattle.schedule.proofs.Follows.{Tells, after}
+use Rattle.numbers.specs.Numbers.{groups, numberBytes, Read, got, stops, _then_, lowest, moreGroups, readNumber}
+use Rattle.numbers.proofs.Follows.{Tells, after}
 use Rattle.files.specs.Fits.{Bytes, Fits32}
 use Rattle.files.specs.Refusals.{Promise, Missing, Faulty}
 use Rattle.files.proofs.Cases.{if-or}

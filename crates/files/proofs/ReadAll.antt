@@ -6,7 +6,7 @@ use native.Mathlib.Omega.{arith}
 use lib.ListN.{length}
 use Rattle.schedule.specs.Encoding.{Item}
 use Rattle.schedule.specs.Reading.{Reading, reading, before, readItems, NextItem, end, item, refuses, nextItem}
-use Rattle.schedule.proofs.Follows.{Follows, follows-shorter}
+use Rattle.numbers.proofs.Follows.{Follows, follows-shorter}
 use Rattle.schedule.specs.Reading.{readAll}
 use Rattle.files.proofs.Follows.{CountFits, Next, next}
 

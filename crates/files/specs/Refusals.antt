@@ -6,7 +6,7 @@ use Prim.Native.Nat.{ℕ, _≤_, _<_}
 use mathlib.Core.Bool.{false}
 use lib.ListN.{length}
 use Rattle.table.specs.Events.{sizesFit}
-use Rattle.schedule.specs.Numbers.{numberBytes}
+use Rattle.numbers.specs.Numbers.{numberBytes}
 use Rattle.files.specs.Fits.{Each, Fits32}
 
 -- "top bit set on all but the last": groups after each of which another must come

@@ -11,23 +11,19 @@ use Rattle.table.specs.Events.{sizesFit}
 use Rattle.table.proofs.Tests.{if}
 use Rattle.schedule.specs.declared.Header.{Header}
 use Rattle.schedule.specs.declared.Cursor.{Cursor}
-use Rattle.schedule.specs.declared.NumberRead.{NumberRead}
 use Rattle.schedule.specs.declared.HeaderRead.{HeaderRead}
 use Rattle.schedule.specs.declared.EventRead.{EventRead}
 use Rattle.schedule.specs.declared.Written.{Written}
 use Rattle.schedule.specs.declared.Written.the-variants.{Next, Refused}
 use Rattle.schedule.specs.Encoding.{headerBytes, eventBytes}
-use Rattle.schedule.specs.Cursors.{start, numberAt, headerAt, eventAt}
+use Rattle.schedule.specs.Cursors.{start, headerAt, eventAt}
 use Rattle.schedule.specs.Writing.{Wrote, room, put, answered, writtenHeader, writtenEvent}
-use Rattle.schedule.proofs.Sizes.{number-size}
+use Rattle.numbers.proofs.Sizes.{number-size}
 
 -- ---- the reader
 
 pub start-unique : (r s : Cursor) → r ≡ start → s ≡ start → r ≡ s
 start-unique r s e f = e ∙ sym f
-
-pub read-number-unique : (bytes : List ℕ) (at : ℕ) (r s : NumberRead) → r ≡ numberAt bytes at → s ≡ numberAt bytes at → r ≡ s
-read-number-unique bytes at r s e f = e ∙ sym f
 
 pub read-header-unique : (bytes : List ℕ) (cursor : Cursor) (r s : HeaderRead) → r ≡ headerAt bytes cursor
     → s ≡ headerAt bytes cursor

@@ -9,13 +9,12 @@ use Rattle.record.specs.declared.Process.{Process}
 use Rattle.record.specs.declared.Event.the-variants.{Step}
 use Rattle.schedule.specs.declared.Header.{Header}
 use Rattle.schedule.specs.declared.Cursor.{Cursor}
-use Rattle.schedule.specs.declared.NumberRead.{NumberRead}
-use Rattle.schedule.specs.declared.NumberRead.the-variants as number
 use Rattle.schedule.specs.declared.HeaderRead.{HeaderRead}
 use Rattle.schedule.specs.declared.HeaderRead.the-variants as header
 use Rattle.schedule.specs.declared.EventRead.{EventRead}
 use Rattle.schedule.specs.declared.EventRead.the-variants as event
-use Rattle.schedule.specs.Numbers.{Read, got, stops, readNumber}
+use Rattle.numbers.specs.Numbers.{Read, got, stops}
+use Rattle.numbers.specs.Places.{placeIn}
 use Rattle.schedule.specs.Encoding.{single, burst}
 use Rattle.schedule.specs.Reading.{readHeader, NextItem, end, item, refuses, nextItem}
 
@@ -31,17 +30,8 @@ cursorAt at = cursorIn at (process 0) 0
 abbrev pub start : Cursor
 start = cursorAt 0
 
--- the place before the bytes left of a file
-abbrev pub placeIn : List ℕ → List ℕ → ℕ
-placeIn file left = length file - length left
-
 -- ---- the answers: "Where an answer is an enum, a definition sets out this paper's number and values for each of its cases."; here by what was
 -- read, and the place of the bytes left
-
--- a number with the place after it, or the refusal's number
-abbrev pub numberRead : (place : List ℕ → ℕ) → Read ℕ → NumberRead
-numberRead place (got n left) = number.Got n (place left)
-numberRead place (stops n) = number.Refused n
 
 -- a header with the cursor after it, or the refusal's number
 abbrev pub headerRead : (place : List ℕ → ℕ) → Read Header → HeaderRead
@@ -57,9 +47,6 @@ eventRead place (item (burst p count) left) = event.Got (Step p) (cursorIn (plac
 eventRead place (refuses n) = event.Refused n
 
 -- ---- at a place of a file
-
-unfoldable pub numberAt : List ℕ → ℕ → NumberRead
-numberAt file at = numberRead (placeIn file) (readNumber (drop at file))
 
 -- "For a file: 7 for length, header numbers, 7 for sizes"
 unfoldable pub headerAt : List ℕ → Cursor → HeaderRead

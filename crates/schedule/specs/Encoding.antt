@@ -9,7 +9,7 @@ use Rattle.record.specs.declared.Address.{Address}
 use Rattle.record.specs.declared.Event.{Event}
 use Rattle.record.specs.declared.Event.the-variants.{Step}
 use Rattle.schedule.specs.declared.Header.{Header}
-use Rattle.schedule.specs.Numbers.{numberBytes}
+use Rattle.numbers.specs.Numbers.{numberBytes}
 
 -- "The header is node count, then process count."
 unfoldable pub headerBytes : Header → List ℕ

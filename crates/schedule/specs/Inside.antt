@@ -1,4 +1,3 @@
 -- What the contracts of private functions cite: no public promise rests on it.
-pub mod Gathering
 pub mod Continuing
 pub mod Laying

@@ -1,4 +1,3 @@
-pub mod Numbers
 pub mod Encoding
 pub mod Reading
 pub mod Cursors

@@ -1,9 +1,7 @@
 // Schedule files of 01. The definitions of the bytes are in specs/.
-mod numbers;
 mod reading;
 mod writing;
 
-pub use numbers::read_number;
 pub use reading::read_event;
 pub use reading::read_header;
 use record::Event;
@@ -24,12 +22,6 @@ pub struct Cursor {
     pub at: usize,
     pub process: Process,
     pub left: u32,
-}
-
-// A number with the place after it, or the refusal's number.
-pub enum NumberRead {
-    Got(u32, usize),
-    Refused(u8),
 }
 
 // A header with the cursor after it, or the refusal's number.

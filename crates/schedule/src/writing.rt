@@ -7,7 +7,7 @@ use record::Process;
 ghost use mathlib.Core.Path.{_≡_};
 ghost use Prim.Native.Nat.{_-_, min};
 ghost use lib.ListN.{length};
-ghost use Rattle.schedule.specs.Numbers.{numberBytes};
+ghost use Rattle.numbers.specs.Numbers.{numberBytes};
 ghost use Rattle.schedule.specs.Encoding.{eventBytes};
 ghost use Rattle.schedule.specs.Writing.{put, answered, writtenHeader, writtenEvent};
 ghost use Rattle.schedule.specs.Inside.Laying.{two, three, tailBytes, bytesOf, fitted, allOrNone, putInRest};

@@ -1,8 +1,8 @@
 // Many schedule files in one stream: standard input packs each as its length, a number in 01's form, and that many bytes. Each is run in turn
 // by the same library as the run program's, and its lines written. It stops at a length that can't be read or an output that can't be written.
+use numbers::NumberRead;
+use numbers::read_number;
 use printer::print_output;
-use schedule::NumberRead;
-use schedule::read_number;
 ghost use Prim.Native.Nat.{_≤_};
 ghost use lib.ListN.{length};
 

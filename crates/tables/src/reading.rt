@@ -2,6 +2,7 @@
 // row's lent length and its records; the event. Every number is in 01's form, and a bad one makes the case bad.
 ghost use Prim.Native.Nat.{_≤_};
 ghost use Rattle.tables.specs.Lengths.{Whole, AsRead};
+use numbers::NumberRead;
 use record::Address;
 use record::Event;
 use record::Kept;
@@ -9,7 +10,6 @@ use record::Lost;
 use record::Node;
 use record::Process;
 use record::Record;
-use schedule::NumberRead;
 use words::Sizes;
 
 // The largest number, the most words or records that are lent, the largest byte.
@@ -85,7 +85,7 @@ fn take(input: &[u8], before: Taken, most: u32) -> Taken
     ensures { λ r. ⌜ r .number ≤ most ⌝ }
 {
     if before.good {
-        let read = schedule::read_number(input, before.next);
+        let read = numbers::read_number(input, before.next);
         if let NumberRead::Got(number, next) = read {
             if number <= most {
                 return Taken {

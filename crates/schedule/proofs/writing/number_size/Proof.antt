@@ -3,8 +3,8 @@ use Prim.Native.Nat.{_+_, _≤_}
 use mathlib.Core.Path.{_≡_, ap}
 use native.Mathlib.Omega.{arith}
 use lib.ListN.{length}
-use Rattle.schedule.specs.Numbers.{numberBytes}
-use Rattle.schedule.proofs.Sizes.{number-last, number-more, number-size}
+use Rattle.numbers.specs.Numbers.{numberBytes}
+use Rattle.numbers.proofs.Sizes.{number-last, number-more, number-size}
 use Rattle.schedule.proofs.writing.number_size.Statement.{statement}
 use Rattle.schedule.proofs.writing.number_size.Tie as tie
 

@@ -3,7 +3,7 @@ use Prim.Native.Nat.{_-_, _≤_}
 use native.Mathlib.Omega.{arith}
 use borrow.Author.Needs.{needs}
 use lib.ListN.{length}
-use Rattle.schedule.specs.Numbers.{numberBytes}
+use Rattle.numbers.specs.Numbers.{numberBytes}
 use Rattle.schedule.proofs.Puts.{Putting, none-put, one-put, last-put, full-put}
 use Rattle.schedule.proofs.writing.put_number.Statement.{statement}
 use Rattle.schedule.proofs.writing.put_number.Tie as tie

@@ -1,12 +1,12 @@
--- What the number reader makes of the groups that it gathered. Rests on Cursors.
+-- What the number reader makes of the groups that it gathered; no public promise rests on it. Rests on Places.
 use mathlib.Core.Bool.{cond, _&&_}
 use mathlib.Core.List.{List, [], _∷_}
 use Prim.Native.Nat.{ℕ, _+_, _*_, _<_}
 use lib.Dec.{ltb, eqb}
 use lib.ListN.{getD}
-use Rattle.schedule.specs.declared.NumberRead.{NumberRead}
-use Rattle.schedule.specs.Numbers.{got, stops}
-use Rattle.schedule.specs.Cursors.{numberRead}
+use Rattle.numbers.specs.declared.NumberRead.{NumberRead}
+use Rattle.numbers.specs.Numbers.{got, stops}
+use Rattle.numbers.specs.Places.{numberRead}
 
 -- "groups of seven bits"
 abbrev pub Groups : List ℕ → Type 0

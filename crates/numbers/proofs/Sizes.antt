@@ -8,7 +8,7 @@ use borrow.Author.Tests.{lt-ltb, le-ltb}
 use lib.Dec.{ltb}
 use lib.ListN.{length}
 use Rattle.table.proofs.Tests.{if}
-use Rattle.schedule.specs.Numbers.{groups, numberBytes}
+use Rattle.numbers.specs.Numbers.{groups, numberBytes}
 
 pub number-last : (n : ℕ) → n < 128 → numberBytes n ≡ n ∷ []
 unfolding numberBytes groups

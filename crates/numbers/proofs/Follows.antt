@@ -8,8 +8,8 @@ use lib.Dec.{ltb, eqb}
 use lib.ListN.{length, take, drop, length-append, take-append-drop}
 use lib.Seq.{drop-at}
 use Rattle.table.proofs.Tests.{if, if-lt}
-use Rattle.schedule.specs.Numbers.{Read, got, stops, _then_, lowest, moreGroups, readNumber}
-use Rattle.schedule.specs.Cursors.{placeIn}
+use Rattle.numbers.specs.Numbers.{Read, got, stops, _then_, lowest, moreGroups, readNumber}
+use Rattle.numbers.specs.Places.{placeIn}
 
 -- ---- what reading tells: one thing of what was read and the bytes left, another of a refusal
 

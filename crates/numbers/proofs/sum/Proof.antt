@@ -1,8 +1,8 @@
 -- Four groups of seven bits and a fifth below 16 make a number of 32 bits, summed from the highest down.
 use native.Mathlib.Omega.{arith}
 use borrow.Author.Needs.{needs}
-use Rattle.schedule.proofs.numbers.sum.Statement.{statement}
-use Rattle.schedule.proofs.numbers.sum.Tie as tie
+use Rattle.numbers.proofs.sum.Statement.{statement}
+use Rattle.numbers.proofs.sum.Tie as tie
 
 array-read-lowest : tie.Need-array-read-lowest
 array-read-lowest c = search needs

@@ -2,9 +2,9 @@
 use mathlib.Core.Logic.{⊎-elim}
 use native.Mathlib.Omega.{arith}
 use borrow.Author.Needs.{needs}
-use Rattle.schedule.proofs.Gathers.{zero-last, only-group, last-not-zero, fifth-above, number-made, summed-five}
-use Rattle.schedule.proofs.numbers.judge.Statement.{statement}
-use Rattle.schedule.proofs.numbers.judge.Tie as tie
+use Rattle.numbers.proofs.Gathers.{zero-last, only-group, last-not-zero, fifth-above, number-made, summed-five}
+use Rattle.numbers.proofs.judge.Statement.{statement}
+use Rattle.numbers.proofs.judge.Tie as tie
 
 array-read-if2 : tie.Need-array-read-if2
 array-read-if2 c = search needs

@@ -4,11 +4,11 @@ use mathlib.Core.List.{List}
 use mathlib.Core.Path.{_≡_, refl, ap, sym, _∙_}
 use native.Mathlib.Omega.{arith}
 use lib.ListN.{length, drop, length-drop}
-use Rattle.schedule.specs.declared.NumberRead.{NumberRead}
-use Rattle.schedule.specs.declared.NumberRead.the-variants.{Got, Refused}
-use Rattle.schedule.specs.Numbers.{Read, got, stops, readNumber}
-use Rattle.schedule.specs.Cursors.{placeIn, numberRead, numberAt}
-use Rattle.schedule.proofs.Follows.{Takes, number-takes, left-follows}
+use Rattle.numbers.specs.declared.NumberRead.{NumberRead}
+use Rattle.numbers.specs.declared.NumberRead.the-variants.{Got, Refused}
+use Rattle.numbers.specs.Numbers.{Read, got, stops, readNumber}
+use Rattle.numbers.specs.Places.{placeIn, numberRead, numberAt}
+use Rattle.numbers.proofs.Follows.{Takes, number-takes, left-follows}
 
 -- the place of the bytes from a place on
 pub place-of-drop : (file : List ℕ) (at : ℕ) → at ≤ length file → placeIn file (drop at file) ≡ at

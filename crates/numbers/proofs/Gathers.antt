@@ -9,11 +9,11 @@ use borrow.Author.Tests.{lt-ltb, le-ltb, le-leb, lt-leb, ltb-true, ltb-false}
 use lib.Dec.{leb, ltb, eqb}
 use lib.ListN.{length, take, drop, getD, set, length-set, length-drop, drop-of-length-le}
 use lib.Seq.{drop-cons, take-suc-set, set-split, getD-set-same, getD-set-other, getD-drop}
-use Rattle.schedule.specs.declared.NumberRead.{NumberRead}
-use Rattle.schedule.specs.declared.NumberRead.the-variants.{Got, Refused}
-use Rattle.schedule.specs.Numbers.{Read, got, stops, _then_, lowest, moreGroups, readNumber}
-use Rattle.schedule.specs.Inside.Gathering.{Groups, summed, summedWith, judged}
-use Rattle.schedule.specs.Cursors.{placeIn, numberRead, numberAt}
+use Rattle.numbers.specs.declared.NumberRead.{NumberRead}
+use Rattle.numbers.specs.declared.NumberRead.the-variants.{Got, Refused}
+use Rattle.numbers.specs.Numbers.{Read, got, stops, _then_, lowest, moreGroups, readNumber}
+use Rattle.numbers.specs.Gathering.{Groups, summed, summedWith, judged}
+use Rattle.numbers.specs.Places.{placeIn, numberRead, numberAt}
 
 -- ---- what is left to read
 

@@ -4,11 +4,11 @@ use mathlib.Core.Path.{_≡_, refl, sym, _∙_}
 use native.Mathlib.Omega.{arith}
 use borrow.Author.Needs.{needs}
 use lib.ListN.{take, drop}
-use Rattle.schedule.specs.Numbers.{readNumber}
-use Rattle.schedule.proofs.Gathers.{afterGroups, behind, still-groups, Gathered, none-gathered, one-gathered}
-use Rattle.schedule.proofs.Gathers.{gathered, byte-missing, last-judged, no-last-group}
-use Rattle.schedule.proofs.numbers.read_number.Statement.{statement}
-use Rattle.schedule.proofs.numbers.read_number.Tie as tie
+use Rattle.numbers.specs.Numbers.{readNumber}
+use Rattle.numbers.proofs.Gathers.{afterGroups, behind, still-groups, Gathered, none-gathered, one-gathered}
+use Rattle.numbers.proofs.Gathers.{gathered, byte-missing, last-judged, no-last-group}
+use Rattle.numbers.proofs.read_number.Statement.{statement}
+use Rattle.numbers.proofs.read_number.Tie as tie
 
 abbrev Inv-loop : tie.InvT-loop
 Inv-loop bytes at groups₀ count₀ next₀ groups count next =

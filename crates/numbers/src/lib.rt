@@ -1,9 +1,15 @@
-// The number reader: a number's groups are gathered into a scratch array of five, then judged and summed.
-use crate::NumberRead;
+// Numbers of 01 as bytes, and their reader: a number's groups are gathered into a scratch array of five, then judged and summed. The
+// definitions of the bytes are in specs/.
 ghost use mathlib.Core.Path.{_≡_};
 ghost use Prim.Native.Nat.{_+_, _*_, _<_};
-ghost use Rattle.schedule.specs.Cursors.{numberAt};
-ghost use Rattle.schedule.specs.Inside.Gathering.{Groups, summedWith, judged};
+ghost use Rattle.numbers.specs.Places.{numberAt};
+ghost use Rattle.numbers.specs.Gathering.{Groups, summedWith, judged};
+
+// A number with the place after it, or the refusal's number.
+pub enum NumberRead {
+    Got(u32, usize),
+    Refused(u8),
+}
 
 // A group before the rest of its number.
 fn lowest(group: u8, rest: u32) -> u32
