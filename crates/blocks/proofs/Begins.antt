@@ -23,9 +23,10 @@ use Rattle.schedule.specs.Reading.{Reading, file, badHeader, readHeader, readFi
 use Rattle.numbers.specs.Places.{placeIn}
 use Rattle.schedule.specs.Cursors.{start, headerRead, headerAt}
 use Rattle.record.specs.Over.{over}
-use Rattle.lent.specs.Fresh.{tablesLeft, freshFits, freshTables, sizesOf}
-use Rattle.lent.specs.declared.Made.{Made}
-use Rattle.lent.specs.declared.Made.the-variants.{Fresh, Refused}
+use Rattle.words.specs.Lent.{sizesOf}
+use Rattle.fresh.specs.Fresh.{tablesLeft, freshFits, freshTables}
+use Rattle.fresh.specs.declared.Made.{Made}
+use Rattle.fresh.specs.declared.Made.the-variants.{Fresh, Refused}
 use Rattle.files.specs.Comes.{comes, ends}
 use Rattle.table.proofs.Tests.{if, if-lt}
 use Rattle.numbers.proofs.Follows.{Tells, after}

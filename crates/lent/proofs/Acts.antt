@@ -6,6 +6,7 @@ use Rattle.walks.proofs.Kit.{Contract, Triple}
 use Rattle.walks.proofs.Values.{ByValue, IsA, of-struct, of-enum, with-value}
 use Rattle.walks.proofs.Calls.{Met, calls-met}
 use Rattle.walks.proofs.Record.{record-values, R, vals}
+use Rattle.walks.proofs.Tables.{values-of-tables, LentTables, SameLengths, Lent, Last, last-words, asked}
 use denote.Struct.Laws as struct
 use Rattle.record.specs.declared.Record.{Record}
 use Rattle.record.specs.declared.Event.{Event}
@@ -23,7 +24,6 @@ use Rattle.lent.proofs.Handed as handed
 use Rattle.lent.proofs.Handed.Laws as handed-laws
 use Rattle.lent.proofs.hand_back as callee
 use Rattle.lent.proofs.hand_back.Symbol.{name as #hand-back}
-use Rattle.lent.proofs.Tables.{values-of-tables, LentTables, SameLengths, Lent, Last, last-words, asked}
 
 -- what is given, what is handed back, and what is said in the end
 abbrev pub event-values : ByValue

@@ -3,8 +3,8 @@ use mathlib.Core.List.{List}
 use Prim.Native.Nat.{ℕ}
 use Rattle.record.specs.declared.Record.{Record}
 use Rattle.record.specs.declared.Event.{Event}
-use Rattle.table.specs.Events.{State, stateOf, Leaves, event}
-use Rattle.words.specs.Lent.{lentMemory}
+use Rattle.table.specs.Events.{Leaves, event}
+use Rattle.words.specs.Lent.{stateIn}
 use Rattle.words.specs.declared.Sizes.{Sizes}
 use Rattle.list.specs.declared.Acted.{Acted}
 use Rattle.lent.specs.declared.Said.{Said}
@@ -12,11 +12,6 @@ use Rattle.lent.specs.declared.Said.{Said}
 -- "one record is lent to the step and left advanced": the lent record afterwards and what is said are what the list's event by value answers
 abbrev pub actedOf : Record → Said → Acted
 actedOf advanced said = record { advanced = advanced; sizes = said .sizes; outcome = said .outcome }
-
--- "The process table is lent as a row of records.": the state that is lent
-abbrev pub stateIn : List ℕ → List ℕ → List ℕ → Sizes → List Record → State
-stateIn addresses links deleters sizes row =
-    stateOf (sizes .nodes) (sizes .processes) (lentMemory addresses links deleters sizes) row
 
 -- the lent tables and the lent row afterwards, and what is said
 abbrev pub leaves : List ℕ → List ℕ → List ℕ → List Record → Said → Leaves

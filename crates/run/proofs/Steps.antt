@@ -24,7 +24,7 @@ use Rattle.schedule.specs.declared.EventRead.the-variants as read
 use Rattle.schedule.specs.declared.Header.{Header}
 use Rattle.schedule.specs.declared.HeaderRead.the-variants as header
 use Rattle.schedule.specs.Cursors.{start, headerAt, eventAt}
-use Rattle.lent.specs.Fresh.{TablesLeft, freshTables}
+use Rattle.fresh.specs.Fresh.{TablesLeft, freshTables}
 use Rattle.schedule.proofs.EventRead as event-read
 use Rattle.chain.specs.Walking.{walkedFrom}
 use Rattle.chain.specs.declared.Walked.{Walked}

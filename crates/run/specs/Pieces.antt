@@ -11,15 +11,15 @@ use Rattle.record.specs.declared.Record.{Record}
 use Rattle.record.specs.declared.Outcome.the-variants as outcome
 use Rattle.table.specs.Words.{Memory, aboveAll}
 use Rattle.table.specs.Events.{State, event}
+use Rattle.words.specs.Lent.{stateIn, sizesOf}
 use Rattle.words.specs.declared.Sizes.{Sizes}
 use Rattle.schedule.specs.declared.Cursor.{Cursor}
 use Rattle.schedule.specs.declared.EventRead.the-variants as read
 use Rattle.schedule.specs.declared.HeaderRead.the-variants as header
 use Rattle.schedule.specs.Cursors.{start, headerAt, eventAt}
-use Rattle.lent.specs.Lent.{stateIn}
-use Rattle.lent.specs.Fresh.{sizesOf, freshTables}
-use Rattle.lent.specs.declared.Made.{Made}
-use Rattle.lent.specs.declared.Made.the-variants.{Fresh, Refused}
+use Rattle.fresh.specs.Fresh.{freshTables}
+use Rattle.fresh.specs.declared.Made.{Made}
+use Rattle.fresh.specs.declared.Made.the-variants.{Fresh, Refused}
 use Rattle.chain.specs.Walking.{walkedFrom}
 use Rattle.chain.specs.declared.Walked.the-variants.{Onto, Ends}
 use Rattle.text.specs.Text.{line, decimal, keysWord, space, newline}

@@ -6,12 +6,12 @@ use Rattle.walks.proofs.Kit.{move, drop, join, fsplit, fjoin, feqL, FmC, RefT, 
 use Rattle.walks.proofs.Record.{R}
 use Rattle.walks.proofs.Values.{IsA, with-value}
 use Rattle.walks.proofs.Calls.{Met, calls-met}
+use Rattle.walks.proofs.Tables.{values-of-tables, LentTables, SameLengths, Lent, Last, last-words, token-out, asked}
 use Rattle.record.specs.declared.Record.{Record}
 use Rattle.record.specs.declared.Event.{Event}
 use Rattle.words.specs.declared.Sizes.{Sizes}
 use Rattle.lent.specs.declared.Said.{Said}
 use Rattle.lent.specs.Lent.{leaves, actIn}
-use Rattle.lent.proofs.Tables.{values-of-tables, LentTables, SameLengths, Lent, Last, last-words, token-out, asked}
 use Rattle.lent.proofs.Acts.{event-values, sizes-values, said-values}
 use Rattle.lent.proofs.act_in as callee
 use Rattle.lent.proofs.act_in.Symbol.{name as #act-in}

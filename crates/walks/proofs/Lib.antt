@@ -7,3 +7,4 @@ pub mod Calls
 pub mod Parameters
 pub mod Rows
 pub mod Fresh
+pub mod Tables

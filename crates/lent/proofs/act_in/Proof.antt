@@ -15,6 +15,7 @@ use Rattle.walks.proofs.Calls.{Met, calls-met}
 use Rattle.walks.proofs.Parameters.{given, lent-slice, Parameters, Told, Ends, ends, Walk, meets-by-walk, tables-over, cites, enters}
 use Rattle.walks.proofs.Rows.{takes, puts, row-opened, row-closed}
 use Rattle.walks.proofs.Fresh.{Makes-fresh, makes-fresh}
+use Rattle.walks.proofs.Tables.{after-tables, LentTables, lent-tables, SameLengths, Lent, Last, tables-apart, untouched, token-in, last-together}
 use denote.Struct.Laws as struct
 use denote.Enum.Laws as enum
 use Rattle.record.specs.Record.{freshRecord}
@@ -35,8 +36,6 @@ use Rattle.lent.specs.Lent.{leaves, actIn}
 use Rattle.lent.proofs.Said as said
 use Rattle.lent.proofs.Said.Laws as said-laws
 use Rattle.lent.proofs.Events.{short-row, past-row, in-row}
-use Rattle.lent.proofs.Tables.{after-tables, LentTables, lent-tables, SameLengths, Lent, Last, tables-apart, untouched, token-in}
-use Rattle.lent.proofs.Tables.{last-together}
 use Rattle.lent.proofs.Acts.{event-values, sizes-values, said-values, handed-values, advanced-is, said-is, Acting, acts}
 use Rattle.lent.proofs.index_of as index
 use Rattle.lent.proofs.index_of.Symbol as index-def

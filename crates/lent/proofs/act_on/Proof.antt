@@ -10,11 +10,11 @@ use Rattle.walks.proofs.Locals.{spot, leaving, environment, holds, releases}
 use Rattle.walks.proofs.Operands.{at-local, copied, field-of, lends-on}
 use Rattle.walks.proofs.Values.{typed-as, IsA, with-value, answers}
 use Rattle.walks.proofs.Parameters.{given, lent, Parameters, Told, Ends, ends, Walk, meets-by-walk, tables-over, cites, enters}
+use Rattle.walks.proofs.Tables.{after-tables, LentTables, lent-tables, SameLengths, Last, tables-apart, token-in, last-together}
 use Rattle.record.specs.declared.Record.{Record}
 use Rattle.record.specs.declared.Event.{Event}
 use Rattle.words.specs.declared.Sizes.{Sizes}
 use Rattle.lent.specs.declared.Handed.{Handed}
-use Rattle.lent.proofs.Tables.{after-tables, LentTables, lent-tables, SameLengths, Last, tables-apart, token-in, last-together}
 use Rattle.lent.proofs.Acts.{event-values, sizes-values, said-values, handed-values, advanced-is, said-is, Acting, Acts-so, acts}
 use Rattle.lent.proofs.hand_back.Symbol as hand-back-def
 use Rattle.lent.proofs.hand_back.Symbol.{name as #hand-back}

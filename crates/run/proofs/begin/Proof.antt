@@ -1,7 +1,7 @@
 -- A header that was read, and one that was refused.
 use mathlib.Core.Path.{ap, sym, _∙_}
 use Rattle.run.proofs.Steps.{begin-got, begin-refused}
-use Rattle.lent.specs.Fresh.{tablesLeft}
+use Rattle.fresh.specs.Fresh.{tablesLeft}
 use Rattle.schedule.specs.Cursors.{headerAt}
 use borrow.Author.Needs.{needs}
 use Rattle.run.proofs.begin.Statement.{statement}

@@ -10,6 +10,7 @@ use Rattle.walks.proofs.Locals.{spot, leaving, environment, holds, slot, local-
 use Rattle.walks.proofs.Operands.{at-local, copied, lends-on}
 use Rattle.walks.proofs.Values.{typed-as, ByValue, IsA, of-struct, of-width, with-value, answers}
 use Rattle.walks.proofs.Parameters.{given, Parameters, Told, Ends, ends, Walk, meets-by-walk, tables-over, cites, enters}
+use Rattle.walks.proofs.Tables.{after-tables, LentTables, lent-tables, SameLengths, Last, tables-apart, last-together}
 use lib.ListN.{drop}
 use denote.Struct.Laws as struct
 use Rattle.record.specs.declared.Record.{Record}
@@ -18,7 +19,6 @@ use Rattle.record.proofs.Record as record-type
 use Rattle.words.specs.declared.Sizes.{Sizes}
 use Rattle.lent.specs.declared.Said.{Said}
 use Rattle.lent.specs.Lent.{leaves, actIn}
-use Rattle.lent.proofs.Tables.{after-tables, LentTables, lent-tables, SameLengths, Last, tables-apart, last-together}
 use Rattle.lent.proofs.Acts.{event-values, sizes-values, said-values}
 use Rattle.lent.proofs.act_in.Symbol as act-def
 use Rattle.lent.proofs.act_in.Symbol.{name as #act-in}

@@ -22,11 +22,11 @@ use Rattle.record.proofs.Record.fresh.Symbol as fresh-def
 use Rattle.record.proofs.Record.fresh.Symbol.{name as #fresh}
 use Rattle.record.proofs.Record.fresh.Met as fresh-thm
 use Rattle.record.specs.Over.{over}
-use Rattle.lent.proofs.Over.{one-more-laid, laid-length}
-use Rattle.lent.proofs.fresh_records.Key.{name as #own}
-use Rattle.lent.proofs.fresh_records as fn
-use Rattle.lent.proofs.fresh_records.Statement as stated
-use Rattle.lent.proofs.fresh_records.Code as code
+use Rattle.fresh.proofs.Over.{one-more-laid, laid-length}
+use Rattle.fresh.proofs.fresh_records.Key.{name as #own}
+use Rattle.fresh.proofs.fresh_records as fn
+use Rattle.fresh.proofs.fresh_records.Statement as stated
+use Rattle.fresh.proofs.fresh_records.Code as code
 
 abbrev params : Parameters (fn.signature .params) (fn.ended .kept)
 params = (lent-slice 0 tt records, (given (of-width w64) (λ x f. refl), tt))

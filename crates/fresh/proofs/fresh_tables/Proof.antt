@@ -1,8 +1,8 @@
 -- Tables that fit are long enough, and the words laid are a fresh list's; where they do not, nothing is changed.
 use borrow.Author.Needs.{needs}
-use Rattle.lent.proofs.Freshness.{room, words-laid, tables-refused}
-use Rattle.lent.proofs.fresh_tables.Statement.{statement}
-use Rattle.lent.proofs.fresh_tables.Tie as tie
+use Rattle.fresh.proofs.Freshness.{room, words-laid, tables-refused}
+use Rattle.fresh.proofs.fresh_tables.Statement.{statement}
+use Rattle.fresh.proofs.fresh_tables.Tie as tie
 
 tables-fit-requires : tie.Need-tables-fit-requires
 tables-fit-requires c κs = search needs

@@ -1,9 +1,9 @@
 -- A row too short, tables that were refused, tables made fresh: what is left to do of the row makes it what the whole promises.
 use native.Mathlib.Omega.{arith}
 use borrow.Author.Needs.{needs}
-use Rattle.lent.proofs.Freshness.{row-refused, list-refused, list-laid}
-use Rattle.lent.proofs.fresh_beside.Statement.{statement}
-use Rattle.lent.proofs.fresh_beside.Tie as tie
+use Rattle.fresh.proofs.Freshness.{row-refused, list-refused, list-laid}
+use Rattle.fresh.proofs.fresh_beside.Statement.{statement}
+use Rattle.fresh.proofs.fresh_beside.Tie as tie
 
 returns : tie.Need-returns
 returns c = (search needs, λ row e. row-refused _ _ _ row _ _ (omega arith))

@@ -1,10 +1,10 @@
 -- Zeros, then the two links: what is laid over the links is a fresh list's.
 use native.Mathlib.Omega.{arith}
 use lib.ListN.{length-set}
-use Rattle.lent.proofs.Freshness.{links-laid}
+use Rattle.fresh.proofs.Freshness.{links-laid}
 use borrow.Author.Needs.{needs}
-use Rattle.lent.proofs.fresh_links.Statement.{statement}
-use Rattle.lent.proofs.fresh_links.Tie as tie
+use Rattle.fresh.proofs.fresh_links.Statement.{statement}
+use Rattle.fresh.proofs.fresh_links.Tie as tie
 
 clear-requires : tie.Need-clear-requires
 clear-requires c κs = search needs

@@ -5,9 +5,9 @@ use mathlib.Core.List.{List}
 use lib.ListN.{length, set, replicate}
 use borrow.Author.Needs.{needs}
 use Rattle.record.specs.Over.{over}
-use Rattle.lent.proofs.Over.{one-more-laid}
-use Rattle.lent.proofs.clear.Statement.{statement}
-use Rattle.lent.proofs.clear.Tie as tie
+use Rattle.fresh.proofs.Over.{one-more-laid}
+use Rattle.fresh.proofs.clear.Statement.{statement}
+use Rattle.fresh.proofs.clear.Tie as tie
 
 abbrev Inv-loop : tie.InvT-loop
 Inv-loop words₀ n i₀ words i = (i ≤ n) × (n ≤ length words₀) × (length words ≡ length words₀) × (words ≡ over (replicate i 0) words₀)

@@ -8,20 +8,17 @@ use lib.ListN.{length}
 use Rattle.record.specs.Over.{over}
 use Rattle.record.specs.declared.Record.{Record}
 use Rattle.table.specs.Words.{memory}
-use Rattle.table.specs.Events.{State, fresh, tablesFit}
+use Rattle.table.specs.Events.{fresh, tablesFit}
+use Rattle.words.specs.Lent.{sizesOf}
 use Rattle.words.specs.declared.Sizes.{Sizes}
-use Rattle.lent.specs.declared.Made.{Made}
-use Rattle.lent.specs.declared.Made.the-variants.{Refused, Fresh}
+use Rattle.fresh.specs.declared.Made.{Made}
+use Rattle.fresh.specs.declared.Made.the-variants.{Refused, Fresh}
 
 -- "Where an answer is an enum, a definition sets out this paper's number and values for each of its cases.": the sizes of what was made fresh; where
 -- nothing was, 7: "sizes outside the limits, a lent table too short"
 abbrev pub madeOf : Option Sizes → Made
 madeOf none = Refused 7
 madeOf (some sizes) = Fresh sizes
-
--- the stated sizes of a state, and its count
-abbrev pub sizesOf : State → Sizes
-sizesOf σ = record { nodes = σ .nodes; processes = σ .processes; count = σ .memory .count }
 
 -- ---- the tables alone
 

@@ -1,10 +1,11 @@
 -- The three lent tables in a walk: as parameters, as what a walk has of them, and the steps that walks over them take, whatever else there is.
--- Rests on the kit of walks.
-use Rattle.walks.proofs.Kit.{Slot, AllWithin, plain, mutSliceOf, sep, Fml, fsep, feq, sem, Goal, Seq, Step, step, cut, prop, mean, ℕ, _≡_, [], _∷_}
-use Rattle.walks.proofs.Kit.{List, length, URA, named, Val, id⊢, emp, Lft, Lfts, Share, Shares, ftrue, flft, Heap, Atoms, Given, Item, ‵, _⊛_, _$_}
-use Rattle.walks.proofs.Kit.{move, split, join, fsplit, fsplit3, fjoin, feqL, done, nothing, u32, RefT, slice-vals, MutSlice, finally, yes}
+-- Rests on the logic's steps, and on `Rows` for a table that was not touched.
+use Rattle.walks.proofs.Kit.{Slot, AllWithin, plain, mutSliceOf, sep, Fml, fsep, feq, sem, Goal, Seq, Step, step, cut, prop, mean, ℕ, _≡_, []}
+use Rattle.walks.proofs.Kit.{_∷_, List, length, URA, named, Val, id⊢, emp, Lft, Lfts, Share, Shares, ftrue, flft, Heap, Atoms, Given, Item, ‵}
+use Rattle.walks.proofs.Kit.{_⊛_, _$_, move, split, join, fsplit, fsplit3, fjoin, feqL, done, nothing, u32, RefT, slice-vals, MutSlice}
+use Rattle.walks.proofs.Kit.{finally, yes}
 use Rattle.walks.proofs.Parameters.{Parameter, slice-passed-on}
 use Rattle.walks.proofs.Rows.{given-up}
 
 -- a table of words, as the slot of a signature
 abbrev pub words : {n : ℕ} → Slot n

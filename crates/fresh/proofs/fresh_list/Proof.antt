@@ -11,30 +11,30 @@ use Rattle.walks.proofs.Operands.{at-local, copied, field-of, lends-on}
 use Rattle.walks.proofs.Values.{typed-as, ByValue, IsA, of-struct, of-enum, of-width, with-value, answers}
 use Rattle.walks.proofs.Calls.{Met, calls-met}
 use Rattle.walks.proofs.Parameters.{given, slice-passed-on, Parameters, Told, Ends, ends, Walk, meets-by-walk, tables-over, cites, enters}
+use Rattle.walks.proofs.Tables.{after-tables, values-of-tables, LentTables, lent-tables, SameLengths, Lent, Last, tables-apart, token-in, last-words}
+use Rattle.walks.proofs.Tables.{last-together, asked}
 use denote.Struct.Laws as struct
 use Rattle.record.specs.Record.{freshRecord}
 use Rattle.record.specs.declared.Record.{Record}
-use Rattle.lent.specs.declared.Beside.{Beside}
 use Rattle.record.specs.Over.{over}
-use Rattle.lent.specs.Fresh.{listLeft, freshList}
-use Rattle.lent.proofs.Beside as beside
-use Rattle.lent.proofs.Beside.Laws as beside-laws
-use Rattle.lent.proofs.Made as made
-use Rattle.lent.proofs.Made.Laws as made-laws
-use Rattle.lent.proofs.Tables.{after-tables, values-of-tables, LentTables, lent-tables, SameLengths, Lent, Last, tables-apart, token-in}
-use Rattle.lent.proofs.Tables.{last-words, last-together, asked}
-use Rattle.lent.proofs.fresh_beside as fresh-beside
-use Rattle.lent.proofs.fresh_beside.Symbol as beside-def
-use Rattle.lent.proofs.fresh_beside.Symbol.{name as #beside}
-use Rattle.lent.proofs.fresh_beside.Met as beside-thm
-use Rattle.lent.proofs.fresh_records as fresh-records
-use Rattle.lent.proofs.fresh_records.Symbol as records-def
-use Rattle.lent.proofs.fresh_records.Symbol.{name as #records}
-use Rattle.lent.proofs.fresh_records.Met as records-thm
-use Rattle.lent.proofs.fresh_list.Key.{name as #own}
-use Rattle.lent.proofs.fresh_list as fn
-use Rattle.lent.proofs.fresh_list.Statement as stated
-use Rattle.lent.proofs.fresh_list.Code as code
+use Rattle.fresh.specs.declared.Beside.{Beside}
+use Rattle.fresh.specs.Fresh.{listLeft, freshList}
+use Rattle.fresh.proofs.Beside as beside
+use Rattle.fresh.proofs.Beside.Laws as beside-laws
+use Rattle.fresh.proofs.Made as made
+use Rattle.fresh.proofs.Made.Laws as made-laws
+use Rattle.fresh.proofs.fresh_beside as fresh-beside
+use Rattle.fresh.proofs.fresh_beside.Symbol as beside-def
+use Rattle.fresh.proofs.fresh_beside.Symbol.{name as #beside}
+use Rattle.fresh.proofs.fresh_beside.Met as beside-thm
+use Rattle.fresh.proofs.fresh_records as fresh-records
+use Rattle.fresh.proofs.fresh_records.Symbol as records-def
+use Rattle.fresh.proofs.fresh_records.Symbol.{name as #records}
+use Rattle.fresh.proofs.fresh_records.Met as records-thm
+use Rattle.fresh.proofs.fresh_list.Key.{name as #own}
+use Rattle.fresh.proofs.fresh_list as fn
+use Rattle.fresh.proofs.fresh_list.Statement as stated
+use Rattle.fresh.proofs.fresh_list.Code as code
 
 abbrev params : Parameters (fn.signature .params) (fn.ended .kept)
 params = after-tables 4 tt tt tt (slice-passed-on 3 tt records, (given (of-width w32) (λ x f. refl), (given (of-width w32) (λ x f. refl), tt)))
@@ -197,5 +197,5 @@ unfolding code.routine
 fresh-list-spec 𝓤 H 𝓜 𝓖 𝓡 =
     enters 𝓤 H 𝓜 𝓡 code.env _ #own code.function (code.unfolded 𝓤 H 𝓜 𝓡)
     (meets 𝓤 H (𝓖 .A) (givenOf 𝓤 H 𝓜 𝓖) (𝓜 .mem) (𝓡 .run) (tables-over 𝓤 H 𝓜 𝓡 code.env)
-    (cites 𝓤 H 𝓜 𝓡 code.env _ #beside beside-def.routine code.calls-lent·fresh-beside (beside-thm.met 𝓤 H 𝓜 𝓖 𝓡))
-    (cites 𝓤 H 𝓜 𝓡 code.env _ #records records-def.routine code.calls-lent·fresh-records (records-thm.met 𝓤 H 𝓜 𝓖 𝓡)))
+    (cites 𝓤 H 𝓜 𝓡 code.env _ #beside beside-def.routine code.calls-fresh·fresh-beside (beside-thm.met 𝓤 H 𝓜 𝓖 𝓡))
+    (cites 𝓤 H 𝓜 𝓡 code.env _ #records records-def.routine code.calls-fresh·fresh-records (records-thm.met 𝓤 H 𝓜 𝓖 𝓡)))

@@ -7,17 +7,18 @@ use native.Mathlib.Nat.{not-suc-le-zero, le-of-suc-le-suc}
 use native.Mathlib.Omega.{arith}
 use lib.ListN.{length, set, replicate}
 use borrow.Author.Tests.{le-leb, lt-leb}
+use Rattle.record.specs.Over.{over}
 use Rattle.record.specs.Record.{freshRecord}
 use Rattle.record.specs.declared.Record.{Record}
 use Rattle.table.specs.Words.{memory, freshMemory}
 use Rattle.table.specs.Events.{fresh, tablesFit}
 use Rattle.table.proofs.Numbered.{Room}
 use Rattle.table.proofs.Fitting.{room-of}
+use Rattle.words.specs.Lent.{sizesOf}
 use Rattle.words.specs.declared.Sizes.{Sizes}
-use Rattle.lent.specs.declared.Made.{Made}
-use Rattle.lent.specs.declared.Made.the-variants.{Refused, Fresh}
-use Rattle.record.specs.Over.{over}
-use Rattle.lent.specs.Fresh.{sizesOf, freshFits, TablesLeft, tablesLeft, freshTables, listLeft, freshList}
+use Rattle.fresh.specs.declared.Made.{Made}
+use Rattle.fresh.specs.declared.Made.the-variants.{Refused, Fresh}
+use Rattle.fresh.specs.Fresh.{freshFits, TablesLeft, tablesLeft, freshTables, listLeft, freshList}
 
 pub links-laid : (l : List ℕ) (nodes : ℕ) → 2 ≤ nodes → set (set (over (replicate nodes 0) l) 0 2) 1 2 ≡ over (freshMemory nodes .links) l
 unfolding freshMemory
