@@ -14,7 +14,7 @@ pub use contract.Running.{givenOf, tables, Running}
 unfoldable pub use contract.Running.{tablesOf}
 pub use denote.Array.{Array, array-vals, array-tells, array-makes, array-typed, each}
 pub use denote.ArrayMemory.{array-apart, array-whole}
-pub use denote.Builtin.{u32, usize}
+pub use denote.Builtin.{u32}
 pub use denote.Enum.Enum.{Plainss, Few}
 pub use denote.Exit.{yes, Kept, Last, left}
 pub use denote.Index.{row, place-is, opens-slice, closes-slice, others, elem-out, elem-put}

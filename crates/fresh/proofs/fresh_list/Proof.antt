@@ -3,7 +3,7 @@
 use Rattle.walks.proofs.Kit.{Lfts, Shares, _≡_, refl, ap, _∙_, ℕ, _<_, _≤_, _^_, [], _∷_, List, length, URA, named, w32, w64, Val, vint, vunit, SProp}
 use Rattle.walks.proofs.Kit.{ent, id⊢, flft, Memory, Routine, Heap, WpFn, Tables, Atoms, Fun, factI, givenOf, Given, Item, ‵, ⋆, _$_, _∵_, !, qed, by}
 use Rattle.walks.proofs.Kit.{move, keep, drop, split, join, fsplit, fjoin, feqL, suffices, frame, done, look, init, of-opd, and-then, no-more}
-use Rattle.walks.proofs.Kit.{assigns, land, returns, params1, pass1, pass0, fmOf, usize, RefT, slice-vals, MutSlice, finally, nothing, Contract}
+use Rattle.walks.proofs.Kit.{assigns, land, returns, params1, pass1, pass0, fmOf, RefT, slice-vals, MutSlice, finally, nothing, Contract}
 use Rattle.walks.proofs.Kit.{Triple, Args, Meets, says, emp, replicate}
 use Rattle.walks.proofs.Record.{R, records}
 use Rattle.walks.proofs.Locals.{spot, leaving, environment, holds, releases}

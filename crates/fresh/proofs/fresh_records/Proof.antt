@@ -7,7 +7,7 @@ use Rattle.walks.proofs.Kit.{fauth, fobor, Memory, Routine, Heap, WpFn, Tables,
 use Rattle.walks.proofs.Kit.{givenOf, scaled-fits, Given, Item, Sq, ‵, ⋆, anyQ, atRet, runs, _$_, _∵_, !, qed, by, move, keep, drop, split, join}
 use Rattle.walks.proofs.Kit.{rewrite, fsplit, fjoin, feqI, suffices, frame, done, look, init, store, store-raw, forget, stop, hop, from, lit}
 use Rattle.walks.proofs.Kit.{unit-lit, of-opd, bin, first, branches, blocks, skips, jumps, exec, again, loops, Below, assigns, assigns-last, land}
-use Rattle.walks.proofs.Kit.{returns, params1, pass1, pass0, fmOf, Is, usize, sliceVal, Room, heres, codedHoleys, Held, row, place-is, MutSlice}
+use Rattle.walks.proofs.Kit.{returns, params1, pass1, pass0, fmOf, Is, sliceVal, Room, heres, codedHoleys, Held, row, place-is, MutSlice}
 use Rattle.walks.proofs.Kit.{nothing, Triple, Args, Meets, says, replicate}
 use Rattle.walks.proofs.Record.{record-values, R, records, vals, size}
 use Rattle.walks.proofs.Locals.{spot, leaving, Addresses, environment, bare, holds, slot, local-at, stacked, releases, into, after}

@@ -6,7 +6,7 @@ use Rattle.walks.proofs.Kit.{flft, Memory, Routine, Heap, Calls, Loops, Env, Wp
 use Rattle.walks.proofs.Kit.{Post, Go, runs, lands, Opds, ‵, raw, ⋆, _$_, _∵_, !, qed, by, move, keep, drop, split, join, rewrite, fsplit3, fjoin}
 use Rattle.walks.proofs.Kit.{suffices, frame, done, atRet, look, look-raw, init, store, store-raw, stop, hop, from, load, lit, of-opd, un, bin, agg}
 use Rattle.walks.proofs.Kit.{and-then, no-more, first, branches, skips, exec, assigns, land, returns, returns-within, params1, pass1, pass0, FmC}
-use Rattle.walks.proofs.Kit.{fmOf, usize, RefT, sliceVal, MutSlice, Room, place-is, nothing, Contract, Triple, Args, Meets, says, emp}
+use Rattle.walks.proofs.Kit.{fmOf, RefT, sliceVal, MutSlice, Room, place-is, nothing, Contract, Triple, Args, Meets, says, emp}
 use Rattle.walks.proofs.Record.{record-values, R, records, size}
 use Rattle.walks.proofs.Locals.{spot, leaving, environment, bare, holds, slot, local-at, after, releases}
 use Rattle.walks.proofs.Operands.{at-local, copied, field-of, lends-on}
