@@ -6,31 +6,30 @@ use mathlib.Core.Bool.{true}
 use native.Mathlib.Omega.{arith}
 use lib.ListN.{length, drop, replicate, length-replicate, replicate-append-replicate}
 use Rattle.record.specs.Record.{freshRecord}
+use Rattle.record.specs.Over.{over}
 use Rattle.record.specs.declared.Record.{Record}
 use Rattle.record.specs.declared.Outcome.the-variants as outcome
 use Rattle.table.specs.Words.{memory, freshMemory}
 use Rattle.table.specs.Events.{State, stateOf, fresh, sizesFit}
+use Rattle.table.proofs.Tests.{if, if-lt}
 use Rattle.table.proofs.Numbered.{Room}
 use Rattle.table.proofs.Fitting.{limits-of, fit-of}
 use Rattle.table.proofs.LawsSizes.{longerState}
-use Rattle.schedule.specs.declared.Header.{Header}
-use Rattle.schedule.specs.declared.Cursor.{Cursor}
-use Rattle.schedule.specs.declared.HeaderRead.{HeaderRead}
-use Rattle.schedule.specs.declared.HeaderRead.the-variants as header
-use Rattle.numbers.specs.Numbers.{Read, got, stops, readNumber}
-use Rattle.schedule.specs.Encoding.{eventsOf}
-use Rattle.schedule.specs.Reading.{Reading, file, badHeader, readHeader, readFile}
-use Rattle.numbers.specs.Places.{placeIn}
-use Rattle.schedule.specs.Cursors.{start, headerRead, headerAt}
-use Rattle.record.specs.Over.{over}
 use Rattle.words.specs.Lent.{sizesOf}
 use Rattle.fresh.specs.Fresh.{tablesLeft, freshFits, freshTables}
 use Rattle.fresh.specs.declared.Made.{Made}
 use Rattle.fresh.specs.declared.Made.the-variants.{Fresh, Refused}
+use Rattle.numbers.specs.Numbers.{Read, got, stops, readNumber}
+use Rattle.numbers.specs.Places.{placeIn}
+use Rattle.numbers.proofs.Follows.{Tells, after, number-takes}
+use Rattle.schedule.specs.declared.Header.{Header}
+use Rattle.schedule.specs.declared.Cursor.{Cursor}
+use Rattle.schedule.specs.declared.HeaderRead.{HeaderRead}
+use Rattle.schedule.specs.declared.HeaderRead.the-variants as header
+use Rattle.schedule.specs.Encoding.{eventsOf}
+use Rattle.schedule.specs.Reading.{Reading, file, badHeader, readHeader, readFile}
+use Rattle.schedule.specs.Cursors.{start, headerRead, headerAt}
 use Rattle.files.specs.Comes.{comes, ends}
-use Rattle.table.proofs.Tests.{if, if-lt}
-use Rattle.numbers.proofs.Follows.{Tells, after}
-use Rattle.numbers.proofs.Follows.{number-takes}
 use Rattle.files.proofs.Comes.{HeaderAnswer, header-tells}
 use Rattle.files.proofs.Count.{comes-few}
 use Rattle.text.specs.Text.{line}

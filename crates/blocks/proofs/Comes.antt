@@ -15,6 +15,8 @@ use Rattle.record.specs.declared.Outcome.the-variants as outcome
 use Rattle.table.specs.Words.{addressAt, linkAt, targetOf}
 use Rattle.table.specs.Chain.{goesOn, walk, chain, chainAddresses}
 use Rattle.table.specs.Events.{State, event, runs, outcomes}
+use Rattle.chain.specs.Walking.{walkedFrom}
+use Rattle.chain.specs.declared.Walked.the-variants.{Onto, Ends}
 use Rattle.schedule.specs.declared.EventRead.{EventRead}
 use Rattle.schedule.specs.declared.EventRead.the-variants as read
 use Rattle.schedule.specs.Cursors.{eventAt}
@@ -26,8 +28,6 @@ use Rattle.run.specs.declared.Phase.{Phase}
 use Rattle.run.specs.declared.Phase.the-variants.{Refusing, Acting, Walking, Over}
 use Rattle.run.specs.Output.{lines, stopLine, played}
 use Rattle.run.specs.Filling.{Next, piece, nothing}
-use Rattle.chain.specs.Walking.{walkedFrom}
-use Rattle.chain.specs.declared.Walked.the-variants.{Onto, Ends}
 use Rattle.run.specs.Pieces.{World, memoryOf, tableOf, inPhase, nextNumber, wentOn, toWalk, eventNext, addressNext, nextPiece}
 use Rattle.run.specs.Parts.{stoppedText, lastText}
 use Rattle.run.proofs.Phase as phase-type

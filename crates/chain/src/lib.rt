@@ -3,6 +3,7 @@ ghost use mathlib.Core.Path.{_≡_};
 ghost use mathlib.Core.List.{[]};
 ghost use lib.Dec.{ltb, eqb};
 ghost use Rattle.table.specs.Words.{memory};
+ghost use Rattle.words.specs.Lent.{lentMemory};
 ghost use Rattle.chain.specs.Walking.{metOf, onwardFrom, walkedFrom};
 ghost use Rattle.chain.specs.Keys.{left, readKeys, keysOf};
 use record::Address;
@@ -102,7 +103,7 @@ pub fn chain_addresses(
     buffer: &mut [u32],
 ) -> Keys
     ensures { λ r. ⌜ left (now (buffer .exit)) r ≡
-        keysOf (sizes .nodes) (sizes .processes) (memory (now (addresses .entry)) (now (links .entry)) (now (deleters .entry)) (sizes .count))
+        keysOf (sizes .nodes) (sizes .processes) (lentMemory (now (addresses .entry)) (now (links .entry)) (now (deleters .entry)) sizes)
         (now (buffer .entry)) ⌝ }
 {
     if words::tables_fit(addresses, links, deleters, sizes) {

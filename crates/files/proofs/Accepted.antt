@@ -6,10 +6,10 @@ use mathlib.Core.Option.{some}
 use Prim.Native.Nat.{ℕ, suc}
 use native.Mathlib.Omega.{arith}
 use lib.ListN.{length}
+use Rattle.numbers.specs.Numbers.{got}
 use Rattle.schedule.specs.declared.Header.{Header}
 use Rattle.schedule.specs.declared.Cursor.{Cursor}
 use Rattle.schedule.specs.declared.HeaderRead.the-variants.{Got}
-use Rattle.numbers.specs.Numbers.{got}
 use Rattle.schedule.specs.Encoding.{Item, eventsOf, itemBytes, itemsBytes, headerBytes, fileBytes}
 use Rattle.schedule.specs.Reading.{Reading, reading, readHeader, item, refuses, nextItem, badHeader, file, readFile}
 use Rattle.schedule.specs.Cursors.{headerAt}

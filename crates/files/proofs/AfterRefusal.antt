@@ -5,8 +5,8 @@ use mathlib.Core.List.{List, _∷_, _++_, append-assoc}
 use Prim.Native.Nat.{ℕ, _≤_}
 use native.Mathlib.Omega.{arith}
 use lib.ListN.{length, length-append}
-use Rattle.schedule.specs.declared.Header.{Header}
 use Rattle.numbers.specs.Numbers.{numberBytes}
+use Rattle.schedule.specs.declared.Header.{Header}
 use Rattle.schedule.specs.Encoding.{Item, itemsBytes, headerBytes}
 use Rattle.schedule.specs.Reading.{reading, refuses, nextItem, badHeader, file, readFile}
 use Rattle.files.specs.Fits.{Bytes}

@@ -12,18 +12,18 @@ use Rattle.record.specs.declared.Process.{Process}
 use Rattle.record.specs.declared.Event.{Event}
 use Rattle.record.specs.declared.Event.the-variants.{Step}
 use Rattle.table.proofs.Tests.{if-lt}
+use Rattle.numbers.specs.Numbers.{Read, got, stops}
+use Rattle.numbers.specs.Places.{placeIn}
+use Rattle.numbers.proofs.Follows.{Follows, left-at, left-follows, Refusal}
 use Rattle.schedule.specs.declared.Header.{Header}
 use Rattle.schedule.specs.declared.Cursor.{Cursor}
 use Rattle.schedule.specs.declared.HeaderRead.{HeaderRead}
 use Rattle.schedule.specs.declared.HeaderRead.the-variants as header
 use Rattle.schedule.specs.declared.EventRead.{EventRead}
 use Rattle.schedule.specs.declared.EventRead.the-variants as event
-use Rattle.numbers.specs.Numbers.{Read, got, stops}
 use Rattle.schedule.specs.Encoding.{Item, single, burst, eventsOf}
 use Rattle.schedule.specs.Reading.{Reading, readHeader, NextItem, end, item, refuses, nextItem, File, file, badHeader, readFile}
-use Rattle.numbers.specs.Places.{placeIn}
 use Rattle.schedule.specs.Cursors.{cursorIn, headerRead, headerAt, eventRead, eventAt}
-use Rattle.numbers.proofs.Follows.{Follows, left-at, left-follows, Refusal}
 use Rattle.schedule.specs.Reading.{readAll}
 use Rattle.files.specs.Comes.{comes, ends, HandedOut, handed, firstThen, handedOut}
 use Rattle.files.proofs.Follows.{CountFits, Next, next, TakesHeader, header-takes}

@@ -3,10 +3,10 @@ use mathlib.Core.List.{List, _∷_}
 use Prim.Native.Nat.{ℕ, _+_, _*_, _≤_}
 use native.Mathlib.Omega.{arith}
 use lib.ListN.{length, drop, length-append, length-replicate, length-drop}
+use Rattle.numbers.proofs.Follows.{follows-shorter}
 use Rattle.schedule.specs.declared.Cursor.{Cursor}
 use Rattle.schedule.specs.Encoding.{Item, single, burst, eventsOf}
 use Rattle.schedule.specs.Reading.{Reading}
-use Rattle.numbers.proofs.Follows.{follows-shorter}
 use Rattle.schedule.specs.Reading.{readAll}
 use Rattle.files.specs.Comes.{comes}
 use Rattle.files.proofs.Follows.{CountFits}

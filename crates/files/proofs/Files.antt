@@ -6,8 +6,8 @@ use Prim.Native.Nat.{ℕ, _≤_}
 use borrow.Author.Tests.{lt-ltb, le-ltb}
 use lib.ListN.{length}
 use Rattle.table.proofs.Tests.{if-lt}
-use Rattle.schedule.specs.declared.Header.{Header}
 use Rattle.numbers.specs.Numbers.{Read, got, stops}
+use Rattle.schedule.specs.declared.Header.{Header}
 use Rattle.schedule.specs.Encoding.{Item, itemBytes, itemsBytes, headerBytes}
 use Rattle.schedule.specs.Reading.{Reading, reading, before, readHeader, nextItem, File, badHeader, file, readFile}
 use Rattle.schedule.specs.Reading.{readAll}

@@ -8,11 +8,11 @@ use Rattle.record.specs.Record.{process}
 use Rattle.record.specs.declared.Process.{Process}
 use Rattle.table.specs.Events.{sizesFit}
 use Rattle.table.proofs.Tests.{if, if-lt, if-le}
-use Rattle.schedule.specs.declared.Header.{Header}
 use Rattle.numbers.specs.Numbers.{Read, got, stops, readNumber}
+use Rattle.numbers.proofs.Follows.{Tells, after, Follows, follows-follows, Refusal, number-takes}
+use Rattle.schedule.specs.declared.Header.{Header}
 use Rattle.schedule.specs.Encoding.{Item, single, burst}
 use Rattle.schedule.specs.Reading.{readHeader, readItem, readRest, readBurst, NextItem, end, item, refuses, standing, nextItem}
-use Rattle.numbers.proofs.Follows.{Tells, after, Follows, follows-follows, Refusal, number-takes}
 use Rattle.files.proofs.Cases.{if-within}
 
 -- "header numbers, 7 for sizes"

@@ -9,11 +9,11 @@ use lib.ListN.{length}
 use Rattle.table.specs.Events.{sizesFit}
 use Rattle.table.proofs.Tests.{if}
 use Rattle.table.proofs.Fitting.{limits-of}
-use Rattle.schedule.specs.declared.Header.{Header}
 use Rattle.numbers.specs.Numbers.{numberBytes, Read, got, stops, _then_, readNumber}
+use Rattle.numbers.proofs.Follows.{Tells, after}
+use Rattle.schedule.specs.declared.Header.{Header}
 use Rattle.schedule.specs.Encoding.{headerBytes}
 use Rattle.schedule.specs.Reading.{readHeader}
-use Rattle.numbers.proofs.Follows.{Tells, after}
 use Rattle.files.specs.Fits.{Bytes, Fits32, HeaderFits}
 use Rattle.files.specs.Refusals.{Missing, Faulty, AtSize, at-nodes, at-processes, HeaderRefused, header-ends, header-number, sizes-outside}
 use Rattle.files.proofs.Numbers.{number-read, number-tells, after-number}

@@ -11,9 +11,9 @@ use Rattle.record.specs.Record.{process, address}
 use Rattle.record.specs.declared.Event.the-variants.{Insert, Delete, Find, Step, Stop, Restart}
 use Rattle.table.proofs.Tests.{if-lt, if-le}
 use Rattle.numbers.specs.Numbers.{numberBytes, Read, got, stops, _then_, readNumber}
+use Rattle.numbers.proofs.Follows.{Tells, after}
 use Rattle.schedule.specs.Encoding.{addressBytes, eventBytes, Item, single, burst, itemBytes}
 use Rattle.schedule.specs.Reading.{readItem, readRest, readBurst, request, move, NextItem, end, item, refuses, standing, nextItem}
-use Rattle.numbers.proofs.Follows.{Tells, after}
 use Rattle.files.specs.Fits.{Bytes, Fits32, ItemFits}
 use Rattle.files.specs.Refusals.{Missing, Faulty, AtNumber, at-kind, at-process, at-last}
 use Rattle.files.specs.Refusals.{Refused, ends-inside, kind-above-6, count-outside, bad-number}

@@ -4,9 +4,9 @@ use mathlib.Core.List.{List, []}
 use Prim.Native.Nat.{ℕ, zero, suc, _<_}
 use native.Mathlib.Omega.{arith}
 use lib.ListN.{length}
+use Rattle.numbers.proofs.Follows.{Follows, follows-shorter}
 use Rattle.schedule.specs.Encoding.{Item}
 use Rattle.schedule.specs.Reading.{Reading, reading, before, readItems, NextItem, end, item, refuses, nextItem}
-use Rattle.numbers.proofs.Follows.{Follows, follows-shorter}
 use Rattle.schedule.specs.Reading.{readAll}
 use Rattle.files.proofs.Follows.{CountFits, Next, next}
 

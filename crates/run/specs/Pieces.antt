@@ -13,15 +13,15 @@ use Rattle.table.specs.Words.{Memory, aboveAll}
 use Rattle.table.specs.Events.{State, event}
 use Rattle.words.specs.Lent.{stateIn, sizesOf}
 use Rattle.words.specs.declared.Sizes.{Sizes}
-use Rattle.schedule.specs.declared.Cursor.{Cursor}
-use Rattle.schedule.specs.declared.EventRead.the-variants as read
-use Rattle.schedule.specs.declared.HeaderRead.the-variants as header
-use Rattle.schedule.specs.Cursors.{start, headerAt, eventAt}
 use Rattle.fresh.specs.Fresh.{freshTables}
 use Rattle.fresh.specs.declared.Made.{Made}
 use Rattle.fresh.specs.declared.Made.the-variants.{Fresh, Refused}
 use Rattle.chain.specs.Walking.{walkedFrom}
 use Rattle.chain.specs.declared.Walked.the-variants.{Onto, Ends}
+use Rattle.schedule.specs.declared.Cursor.{Cursor}
+use Rattle.schedule.specs.declared.EventRead.the-variants as read
+use Rattle.schedule.specs.declared.HeaderRead.the-variants as header
+use Rattle.schedule.specs.Cursors.{start, headerAt, eventAt}
 use Rattle.text.specs.Text.{line, decimal, keysWord, space, newline}
 use Rattle.run.specs.declared.Phase.{Phase}
 use Rattle.run.specs.declared.Phase.the-variants.{Refusing, Acting, Walking, Over}

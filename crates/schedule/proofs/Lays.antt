@@ -13,11 +13,11 @@ use Rattle.record.specs.declared.Event.{Event}
 use Rattle.record.proofs.Rest.{rest-is, rest-back}
 use Rattle.table.specs.Events.{sizesFit}
 use Rattle.table.proofs.Tests.{if-le}
+use Rattle.numbers.specs.Numbers.{numberBytes}
 use Rattle.schedule.specs.declared.Header.{Header}
 use Rattle.schedule.specs.declared.Written.{Written}
 use Rattle.schedule.specs.declared.Written.the-variants.{Next, Refused}
 use Rattle.schedule.specs.declared.writing.Numbers.{Numbers}
-use Rattle.numbers.specs.Numbers.{numberBytes}
 use Rattle.schedule.specs.Encoding.{headerBytes, eventBytes}
 use Rattle.schedule.specs.Writing.{Wrote, room, laid, wrote, answered, put, writtenHeader, writtenEvent}
 use Rattle.schedule.specs.Inside.Laying.{two, tailBytes, bytesOf, fitted, allOrNone, putInRest}

@@ -5,10 +5,10 @@ use mathlib.Core.List.{_++_, append-nil}
 use mathlib.Core.Path.{_≡_}
 use native.Mathlib.Omega.{arith}
 use lib.ListN.{length, length-append}
-use Rattle.schedule.specs.declared.writing.Numbers.{Numbers}
 use Rattle.numbers.specs.Numbers.{numberBytes}
-use Rattle.schedule.specs.Inside.Laying.{tailBytes, bytesOf}
 use Rattle.numbers.proofs.Sizes.{number-size}
+use Rattle.schedule.specs.declared.writing.Numbers.{Numbers}
+use Rattle.schedule.specs.Inside.Laying.{tailBytes, bytesOf}
 
 module _ (x : Numbers) where
   pub all-size : length (bytesOf x) ≡ length (numberBytes (x .first)) + length (tailBytes x)

@@ -8,8 +8,8 @@ use lib.ListN.{length, take, drop, set, getD, length-set, length-drop, drop-of-l
 use lib.Seq.{drop-cons, take-length}
 use Rattle.record.proofs.Rest.{copy-more}
 use Rattle.numbers.specs.Numbers.{numberBytes}
-use Rattle.schedule.specs.Inside.Laying.{fitted}
 use Rattle.numbers.proofs.Sizes.{number-last, number-more, number-size}
+use Rattle.schedule.specs.Inside.Laying.{fitted}
 use Rattle.schedule.proofs.Lays.{fitted-whole, fitted-full}
 
 -- of the bytes of a number so many stand in the output found, and those of the rest are to come

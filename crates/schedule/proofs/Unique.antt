@@ -9,6 +9,7 @@ use Rattle.record.specs.Event.{kindOf}
 use Rattle.record.specs.declared.Event.{Event}
 use Rattle.table.specs.Events.{sizesFit}
 use Rattle.table.proofs.Tests.{if}
+use Rattle.numbers.proofs.Sizes.{number-size}
 use Rattle.schedule.specs.declared.Header.{Header}
 use Rattle.schedule.specs.declared.Cursor.{Cursor}
 use Rattle.schedule.specs.declared.HeaderRead.{HeaderRead}
@@ -18,7 +19,6 @@ use Rattle.schedule.specs.declared.Written.the-variants.{Next, Refused}
 use Rattle.schedule.specs.Encoding.{headerBytes, eventBytes}
 use Rattle.schedule.specs.Cursors.{start, headerAt, eventAt}
 use Rattle.schedule.specs.Writing.{Wrote, room, put, answered, writtenHeader, writtenEvent}
-use Rattle.numbers.proofs.Sizes.{number-size}
 
 -- ---- the reader
 

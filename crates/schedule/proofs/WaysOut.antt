@@ -13,21 +13,21 @@ use Rattle.record.specs.declared.Process.{Process}
 use Rattle.record.specs.declared.Event.{Event}
 use Rattle.record.specs.declared.Event.the-variants.{Step}
 use Rattle.table.specs.Events.{sizesFit}
-use Rattle.schedule.specs.declared.Header.{Header}
-use Rattle.schedule.specs.declared.Cursor.{Cursor}
 use Rattle.numbers.specs.declared.NumberRead.{NumberRead}
 use Rattle.numbers.specs.declared.NumberRead.the-variants as number
+use Rattle.numbers.specs.Numbers.{got, stops, _then_}
+use Rattle.numbers.specs.Places.{placeIn, numberAt}
+use Rattle.numbers.proofs.Places.{place-of-drop, got-number, refused-number}
+use Rattle.schedule.specs.declared.Header.{Header}
+use Rattle.schedule.specs.declared.Cursor.{Cursor}
 use Rattle.schedule.specs.declared.HeaderRead.{HeaderRead}
 use Rattle.schedule.specs.declared.HeaderRead.the-variants as header
 use Rattle.schedule.specs.declared.EventRead.{EventRead}
 use Rattle.schedule.specs.declared.EventRead.the-variants as event
-use Rattle.numbers.specs.Numbers.{got, stops, _then_}
 use Rattle.schedule.specs.Encoding.{burst}
 use Rattle.schedule.specs.Reading.{readHeader, request, move, readBurst, readRest, readItem, item, refuses, nextItem}
-use Rattle.numbers.specs.Places.{placeIn, numberAt}
 use Rattle.schedule.specs.Cursors.{cursorIn, cursorAt, headerRead, headerAt, eventRead, eventAt}
 use Rattle.schedule.specs.Inside.Continuing.{sizedAt, readAs, burstOf, burstAt, requestAt, restAt, itemAt}
-use Rattle.numbers.proofs.Places.{place-of-drop, got-number, refused-number}
 
 -- ---- the header
 

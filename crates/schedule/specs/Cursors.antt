@@ -7,14 +7,14 @@ use lib.ListN.{length, drop}
 use Rattle.record.specs.Record.{process}
 use Rattle.record.specs.declared.Process.{Process}
 use Rattle.record.specs.declared.Event.the-variants.{Step}
+use Rattle.numbers.specs.Numbers.{Read, got, stops}
+use Rattle.numbers.specs.Places.{placeIn}
 use Rattle.schedule.specs.declared.Header.{Header}
 use Rattle.schedule.specs.declared.Cursor.{Cursor}
 use Rattle.schedule.specs.declared.HeaderRead.{HeaderRead}
 use Rattle.schedule.specs.declared.HeaderRead.the-variants as header
 use Rattle.schedule.specs.declared.EventRead.{EventRead}
 use Rattle.schedule.specs.declared.EventRead.the-variants as event
-use Rattle.numbers.specs.Numbers.{Read, got, stops}
-use Rattle.numbers.specs.Places.{placeIn}
 use Rattle.schedule.specs.Encoding.{single, burst}
 use Rattle.schedule.specs.Reading.{readHeader, NextItem, end, item, refuses, nextItem}
 

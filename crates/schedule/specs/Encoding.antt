@@ -8,8 +8,8 @@ use Rattle.record.specs.declared.Process.{Process}
 use Rattle.record.specs.declared.Address.{Address}
 use Rattle.record.specs.declared.Event.{Event}
 use Rattle.record.specs.declared.Event.the-variants.{Step}
-use Rattle.schedule.specs.declared.Header.{Header}
 use Rattle.numbers.specs.Numbers.{numberBytes}
+use Rattle.schedule.specs.declared.Header.{Header}
 
 -- "The header is node count, then process count."
 unfoldable pub headerBytes : Header → List ℕ

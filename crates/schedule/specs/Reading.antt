@@ -10,8 +10,8 @@ use Rattle.record.specs.declared.Address.{Address}
 use Rattle.record.specs.declared.Event.{Event}
 use Rattle.record.specs.declared.Event.the-variants.{Insert, Delete, Find, Step, Stop, Restart}
 use Rattle.table.specs.Events.{sizesFit}
-use Rattle.schedule.specs.declared.Header.{Header}
 use Rattle.numbers.specs.Numbers.{Read, got, stops, _then_, readNumber}
+use Rattle.schedule.specs.declared.Header.{Header}
 use Rattle.schedule.specs.Encoding.{Item, single, burst}
 
 -- ---- the header

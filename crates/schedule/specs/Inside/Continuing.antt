@@ -7,12 +7,12 @@ use lib.ListN.{drop}
 use Rattle.record.specs.Record.{address}
 use Rattle.record.specs.declared.Process.{Process}
 use Rattle.table.specs.Events.{sizesFit}
+use Rattle.numbers.specs.Numbers.{Read, got, stops, _then_, readNumber}
+use Rattle.numbers.specs.Places.{placeIn}
 use Rattle.schedule.specs.declared.HeaderRead.{HeaderRead}
 use Rattle.schedule.specs.declared.EventRead.{EventRead}
-use Rattle.numbers.specs.Numbers.{Read, got, stops, _then_, readNumber}
 use Rattle.schedule.specs.Encoding.{Item, single, burst}
 use Rattle.schedule.specs.Reading.{request, readBurst, readRest, readItem, item, refuses, standing}
-use Rattle.numbers.specs.Places.{placeIn}
 use Rattle.schedule.specs.Cursors.{headerRead, eventRead}
 
 -- the numbers of a header, read, with the next place

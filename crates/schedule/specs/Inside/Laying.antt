@@ -4,8 +4,8 @@ use mathlib.Core.List.{List, [], _∷_, _++_}
 use Prim.Native.Nat.{ℕ, _+_, _-_, min}
 use lib.Dec.{leb}
 use lib.ListN.{length}
-use Rattle.schedule.specs.declared.writing.Numbers.{Numbers}
 use Rattle.numbers.specs.Numbers.{numberBytes}
+use Rattle.schedule.specs.declared.writing.Numbers.{Numbers}
 use Rattle.schedule.specs.Writing.{Wrote, wrote, laid}
 
 abbrev pub two : (first second : ℕ) → Numbers

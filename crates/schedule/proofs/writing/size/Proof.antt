@@ -3,8 +3,8 @@ use mathlib.Core.Path.{ap}
 use native.Mathlib.Omega.{arith}
 use borrow.Author.Needs.{needs}
 use lib.ListN.{length}
-use Rattle.schedule.proofs.Parts.{all-size, tail-of-two, tail-size-three}
 use Rattle.numbers.proofs.Sizes.{number-size}
+use Rattle.schedule.proofs.Parts.{all-size, tail-of-two, tail-size-three}
 use Rattle.schedule.proofs.writing.size.Statement.{statement}
 use Rattle.schedule.proofs.writing.size.Tie as tie
 
