@@ -6,12 +6,12 @@ use mathlib.Core.Bool.{true}
 use native.Mathlib.Omega.{arith}
 use lib.ListN.{length, drop, replicate, length-replicate, replicate-append-replicate}
 use Rattle.record.specs.Record.{freshRecord}
-use Rattle.record.specs.Over.{over}
+use Rattle.basics.specs.Over.{over}
 use Rattle.record.specs.declared.Record.{Record}
 use Rattle.record.specs.declared.Outcome.the-variants as outcome
 use Rattle.table.specs.Words.{memory, freshMemory}
 use Rattle.table.specs.Events.{State, stateOf, fresh, sizesFit}
-use Rattle.table.proofs.Tests.{if, if-lt}
+use Rattle.basics.proofs.Tests.{if, if-lt}
 use Rattle.table.proofs.Numbered.{Room}
 use Rattle.table.proofs.Fitting.{limits-of, fit-of}
 use Rattle.table.proofs.LawsSizes.{longerState}

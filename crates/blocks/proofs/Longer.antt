@@ -18,7 +18,7 @@ use Rattle.table.specs.Words.{Memory, addressAt, linkAt, targetOf, rank, aboveA
 use Rattle.table.specs.Steps.{turnIn}
 use Rattle.table.specs.Chain.{goesOn, walk, chain, chainAddresses}
 use Rattle.table.specs.Events.{State, Acted, Leaves, does, stored, recordIn, event, runs, outcomes}
-use Rattle.table.proofs.Tests.{if-eq, and-left, and-right}
+use Rattle.basics.proofs.Tests.{if-eq, and-left, and-right}
 use Rattle.table.proofs.Meets.{step-meets, act-meets, event-meets}
 use Rattle.table.proofs.Numbered.{Room}
 use Rattle.table.proofs.LawsSizes.{Agree, longer, longer-agrees, Holds, holds-stays, sizes-stay, longerState, beyond-untouched}

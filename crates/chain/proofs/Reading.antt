@@ -14,7 +14,7 @@ use Rattle.record.specs.declared.Node.{Node}
 use Rattle.table.specs.Words.{Memory, memory, addressAt, linkAt, rank, aboveAll}
 use Rattle.table.specs.Events.{tablesFit}
 use Rattle.table.specs.Chain.{walk, chain, chainAddresses}
-use Rattle.table.proofs.Tests.{if-eq}
+use Rattle.basics.proofs.Tests.{if-eq}
 use Rattle.chain.specs.declared.Met.{Met}
 use Rattle.chain.specs.declared.Met.the-variants.{Next}
 use Rattle.chain.specs.declared.Keys.the-variants.{Read, Refused}

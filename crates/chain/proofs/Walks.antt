@@ -14,7 +14,7 @@ use Rattle.record.specs.Record.{headNode, address}
 use Rattle.record.specs.declared.Node.{Node}
 use Rattle.table.specs.Words.{Memory, memory, addressAt, linkAt, targetOf, inUse, rank, aboveAll}
 use Rattle.table.specs.Chain.{goesOn, walk, chain}
-use Rattle.table.proofs.Tests.{if-eq, and-left, and-right}
+use Rattle.basics.proofs.Tests.{if-eq, and-left, and-right}
 use Rattle.chain.specs.declared.Met.{Met}
 use Rattle.chain.specs.declared.Met.the-variants.{Next, Tail, NotInUse, NotAbove}
 use Rattle.chain.specs.declared.Walked.the-variants.{Onto, Ends}

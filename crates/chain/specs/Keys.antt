@@ -6,7 +6,7 @@ use mathlib.Core.Option.{Option, none, some}
 use Prim.Native.Nat.{ℕ}
 use lib.ListN.{length, take}
 use Rattle.record.specs.Record.{headNode}
-use Rattle.record.specs.Over.{over}
+use Rattle.basics.specs.Over.{over}
 use Rattle.record.specs.declared.Node.{Node}
 use Rattle.table.specs.Words.{Memory}
 use Rattle.table.specs.Events.{tablesFit}

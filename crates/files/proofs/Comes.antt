@@ -11,7 +11,7 @@ use Rattle.record.specs.Record.{process}
 use Rattle.record.specs.declared.Process.{Process}
 use Rattle.record.specs.declared.Event.{Event}
 use Rattle.record.specs.declared.Event.the-variants.{Step}
-use Rattle.table.proofs.Tests.{if-lt}
+use Rattle.basics.proofs.Tests.{if-lt}
 use Rattle.numbers.specs.Numbers.{Read, got, stops}
 use Rattle.numbers.specs.Places.{placeIn}
 use Rattle.numbers.proofs.Follows.{Follows, left-at, left-follows, Refusal}

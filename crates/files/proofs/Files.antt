@@ -5,7 +5,7 @@ use mathlib.Core.List.{List, [], _∷_, _++_, append-assoc, append-nil}
 use Prim.Native.Nat.{ℕ, _≤_}
 use borrow.Author.Tests.{lt-ltb, le-ltb}
 use lib.ListN.{length}
-use Rattle.table.proofs.Tests.{if-lt}
+use Rattle.basics.proofs.Tests.{if-lt}
 use Rattle.numbers.specs.Numbers.{Read, got, stops}
 use Rattle.schedule.specs.declared.Header.{Header}
 use Rattle.schedule.specs.Encoding.{Item, itemBytes, itemsBytes, headerBytes}

@@ -7,7 +7,7 @@ use native.Mathlib.Omega.{arith}
 use Rattle.record.specs.Record.{process}
 use Rattle.record.specs.declared.Process.{Process}
 use Rattle.table.specs.Events.{sizesFit}
-use Rattle.table.proofs.Tests.{if, if-lt, if-le}
+use Rattle.basics.proofs.Tests.{if, if-lt, if-le}
 use Rattle.numbers.specs.Numbers.{Read, got, stops, readNumber}
 use Rattle.numbers.proofs.Follows.{Tells, after, Follows, follows-follows, Refusal, number-takes}
 use Rattle.schedule.specs.declared.Header.{Header}

@@ -7,7 +7,7 @@ use Prim.Native.Nat.{ℕ, _≤_}
 use native.Mathlib.Omega.{arith}
 use lib.ListN.{length}
 use Rattle.table.specs.Events.{sizesFit}
-use Rattle.table.proofs.Tests.{if}
+use Rattle.basics.proofs.Tests.{if}
 use Rattle.table.proofs.Fitting.{limits-of}
 use Rattle.numbers.specs.Numbers.{numberBytes, Read, got, stops, _then_, readNumber}
 use Rattle.numbers.proofs.Follows.{Tells, after}

@@ -9,7 +9,7 @@ use borrow.Author.Tests.{lt-ltb, le-ltb, le-leb, lt-leb}
 use lib.Dec.{leb}
 use Rattle.record.specs.Record.{process, address}
 use Rattle.record.specs.declared.Event.the-variants.{Insert, Delete, Find, Step, Stop, Restart}
-use Rattle.table.proofs.Tests.{if-lt, if-le}
+use Rattle.basics.proofs.Tests.{if-lt, if-le}
 use Rattle.numbers.specs.Numbers.{numberBytes, Read, got, stops, _then_, readNumber}
 use Rattle.numbers.proofs.Follows.{Tells, after}
 use Rattle.schedule.specs.Encoding.{addressBytes, eventBytes, Item, single, burst, itemBytes}

@@ -6,7 +6,7 @@ use Prim.Native.Nat.{ℕ, zero, suc, _+_, _/_, _%_, _≤_}
 use native.Mathlib.Omega.{arith}
 use lib.ListN.{length}
 use lib.Seq.{append-snoc}
-use Rattle.table.proofs.Tests.{if-lt}
+use Rattle.basics.proofs.Tests.{if-lt}
 use Rattle.numbers.specs.Numbers.{groups, numberBytes}
 use Rattle.schedule.specs.Reading.{end, refuses, nextItem}
 use Rattle.files.specs.Fits.{Bytes, Fits32}

@@ -8,7 +8,7 @@ use native.Mathlib.Omega.{arith}
 use borrow.Author.Tests.{lt-ltb, le-ltb, ne-eqb, ltb-true, ltb-false, eqb-true, eqb-false}
 use lib.Dec.{ltb, eqb}
 use lib.ListN.{length}
-use Rattle.table.proofs.Tests.{if-lt, if-eq}
+use Rattle.basics.proofs.Tests.{if-lt, if-eq}
 use Rattle.numbers.specs.Numbers.{groups, numberBytes, Read, got, stops, _then_, lowest, moreGroups, readNumber}
 use Rattle.numbers.proofs.Follows.{Tells, after}
 use Rattle.files.specs.Fits.{Bytes, Fits32}

@@ -12,7 +12,7 @@ use lib.ListN.{length, take, drop, length-append, length-take, length-drop, take
 use lib.Seq.{take-at, drop-at, drop-drop, length-take-le, take-append-seam}
 use Rattle.record.specs.declared.Event.{Event}
 use Rattle.table.specs.Events.{sizesFit}
-use Rattle.table.proofs.Tests.{if, if-le}
+use Rattle.basics.proofs.Tests.{if, if-le}
 use Rattle.schedule.specs.declared.Header.{Header}
 use Rattle.schedule.specs.Encoding.{Item, single, burst, headerBytes, eventBytes, itemBytes, itemsBytes, fileBytes, eventsOf}
 use Rattle.schedule.specs.Reading.{reading, file, readFile}

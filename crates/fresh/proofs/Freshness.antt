@@ -7,7 +7,7 @@ use native.Mathlib.Nat.{not-suc-le-zero, le-of-suc-le-suc}
 use native.Mathlib.Omega.{arith}
 use lib.ListN.{length, set, replicate}
 use borrow.Author.Tests.{le-leb, lt-leb}
-use Rattle.record.specs.Over.{over}
+use Rattle.basics.specs.Over.{over}
 use Rattle.record.specs.Record.{freshRecord}
 use Rattle.record.specs.declared.Record.{Record}
 use Rattle.table.specs.Words.{memory, freshMemory}

@@ -6,7 +6,7 @@ use native.Mathlib.Numerals.{add-one}
 use native.Mathlib.Omega.{arith}
 use mathlib.Core.List.{List, [], _∷_}
 use lib.ListN.{length, set, replicate, length-append, length-replicate, length-drop}
-use Rattle.record.specs.Over.{over}
+use Rattle.basics.specs.Over.{over}
 
 pub one-more-laid : {A : Type 0} (x : A) (ys : List A) (i : ℕ) → i < length ys → set (over (replicate i x) ys) i x ≡ over (replicate (i + 1) x) ys
 one-more-laid x ys i l = next ys i l ∙ ap (λ (n : ℕ). over (replicate n x) ys) (sym (add-one i))

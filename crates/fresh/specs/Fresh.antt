@@ -5,7 +5,7 @@ use mathlib.Core.Option.{Option, none, some}
 use Prim.Native.Nat.{ℕ}
 use lib.Dec.{leb}
 use lib.ListN.{length}
-use Rattle.record.specs.Over.{over}
+use Rattle.basics.specs.Over.{over}
 use Rattle.record.specs.declared.Record.{Record}
 use Rattle.table.specs.Words.{memory}
 use Rattle.table.specs.Events.{fresh, tablesFit}

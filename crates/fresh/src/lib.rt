@@ -3,7 +3,7 @@ ghost use mathlib.Core.Path.{_≡_};
 ghost use mathlib.Core.List.{List};
 ghost use Prim.Native.Nat.{_≤_};
 ghost use lib.ListN.{length, replicate};
-ghost use Rattle.record.specs.Over.{over};
+ghost use Rattle.basics.specs.Over.{over};
 ghost use Rattle.record.specs.Record.{freshRecord};
 ghost use Rattle.record.specs.declared.Record.{Record};
 ghost use Rattle.table.specs.Words.{freshMemory};

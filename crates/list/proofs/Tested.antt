@@ -8,7 +8,7 @@ use lib.ListN.{set}
 use native.Mathlib.Omega.{arith}
 use Rattle.record.specs.declared.Node.{Node}
 use Rattle.table.specs.Words.{linkWord}
-use Rattle.table.proofs.Tests.{and-left, and-right}
+use Rattle.basics.proofs.Tests.{and-left, and-right}
 use Rattle.words.specs.Lent.{Swapped, swapOf}
 use Rattle.words.specs.declared.Sizes.{Sizes}
 use Rattle.words.proofs.Links.{small-word}

@@ -7,7 +7,7 @@ use native.Mathlib.Omega.{arith}
 use lib.Dec.{ltb, eqb}
 use lib.ListN.{length, take, drop, length-append, take-append-drop}
 use lib.Seq.{drop-at}
-use Rattle.table.proofs.Tests.{if, if-lt}
+use Rattle.basics.proofs.Tests.{if, if-lt}
 use Rattle.numbers.specs.Numbers.{Read, got, stops, _then_, lowest, moreGroups, readNumber}
 use Rattle.numbers.specs.Places.{placeIn}
 

@@ -7,7 +7,7 @@ use native.Mathlib.Omega.{arith}
 use borrow.Author.Tests.{lt-ltb, le-ltb}
 use lib.Dec.{ltb}
 use lib.ListN.{length}
-use Rattle.table.proofs.Tests.{if}
+use Rattle.basics.proofs.Tests.{if}
 use Rattle.numbers.specs.Numbers.{groups, numberBytes}
 
 pub number-last : (n : ℕ) → n < 128 → numberBytes n ≡ n ∷ []

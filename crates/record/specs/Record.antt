@@ -120,6 +120,12 @@ _with_ place answer r = let l = r .lost in r ▸ lost≔ (lostPart place (l .pre
 abbrev pub status≔ : ℕ → Record → Record
 status≔ status r = let k = r .kept in r ▸ kept≔ (keptPart status (k .kind) (k .address) (k .node) (k .result))
 
+abbrev pub kind≔ : ℕ → Record → Record
+kind≔ kind r = let k = r .kept in r ▸ kept≔ (keptPart (k .status) kind (k .address) (k .node) (k .result))
+
+abbrev pub address≔ : Address → Record → Record
+address≔ a r = let k = r .kept in r ▸ kept≔ (keptPart (k .status) (k .kind) a (k .node) (k .result))
+
 abbrev pub node≔ : Node → Record → Record
 node≔ n r = let k = r .kept in r ▸ kept≔ (keptPart (k .status) (k .kind) (k .address) n (k .result))
 
@@ -130,8 +136,9 @@ result≔ answer r = let k = r .kept in r ▸ kept≔ (keptPart (k .status) (k .
 
 -- "The kept part is written at once: running, kind, address, node none, result none. Lost part: place 0 (find: 11), all else 0."
 -- An insert's node is the one that it takes.
-abbrev pub requested : (place kind : ℕ) → Address → Node → Record
-requested place kind a own = recordOf (lostAt place) (keptPart Running kind a own NoAnswer)
+abbrev pub requested : (place kind : ℕ) → Address → Node → Record → Record
+requested place kind a own r =
+    r ▸ lost≔ (lostAt place) ▸ status≔ Running ▸ kind≔ kind ▸ address≔ a ▸ node≔ own ▸ result≔ NoAnswer
 
 -- "a running process goes down; its lost part becomes zeros"
 abbrev pub wentDown : Record → Record

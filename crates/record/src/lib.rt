@@ -1,5 +1,5 @@
-// The three sorts of number, the process record and its methods by value, events and outcomes: what 01 stores and hands about.
-// Rests on nothing below it.
+// The three sorts of number, the process record and its methods by value, actions, events and outcomes: what 01 stores and hands about.
+// Rests on the basics.
 ghost use mathlib.Core.Path.{_≡_};
 ghost use mathlib.Core.Bool.{cond};
 ghost use lib.Dec.{eqb};
@@ -69,14 +69,20 @@ pub struct Record {
     pub kept: Kept,
 }
 
-// Kinds 0 to 5.
-pub enum Event {
-    Insert(Process, Address),
-    Delete(Process, Address),
-    Find(Process, Address),
-    Step(Process),
-    Stop(Process),
-    Restart(Process),
+// What a process does: kinds 0 to 5.
+pub enum Action {
+    Insert(Address),
+    Delete(Address),
+    Find(Address),
+    Step,
+    Stop,
+    Restart,
+}
+
+// An event: a process, and what it does.
+pub struct Event {
+    pub process: Process,
+    pub action: Action,
 }
 
 // What an event comes to: refused with its number, accepted, or accepted with an answer (false 1, true 2, fail 3).
@@ -131,7 +137,7 @@ fn lost_at(place: u8) -> Lost
 }
 
 // The one node or the other.
-fn either(first: bool, one: Node, other: Node) -> Node
+pub fn either(first: bool, one: Node, other: Node) -> Node
     ensures { λ r. ⌜ r ≡ cond first one other ⌝ }
 {
     if first {
@@ -157,18 +163,19 @@ impl Record {
     }
 
     // A request: running, at its first place, with its kind, its address and its node.
-    pub fn request(place: u8, kind: u8, address: Address, own: Node) -> Record
-        ensures { λ r. ⌜ r ≡ requested place kind address own ⌝ }
+    pub fn request(mut self, place: u8, kind: u8, address: Address, own: Node) -> Record
+        ensures { λ r. ⌜ r ≡ requested place kind address own self ⌝ }
     {
         let lost = lost_at(place);
-        let kept = Kept {
-            status: RUNNING,
-            kind,
-            address,
-            node: own,
-            result: NO_ANSWER,
-        };
-        Record { lost, kept }
+        let mut kept = self.kept;
+        kept.status = RUNNING;
+        kept.kind = kind;
+        kept.address = address;
+        kept.node = own;
+        kept.result = NO_ANSWER;
+        self.lost = lost;
+        self.kept = kept;
+        self
     }
 
     // These in the lost part; its flag and the kept part stay. Field by field, so that no part of a record is copied through memory.

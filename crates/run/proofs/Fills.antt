@@ -10,7 +10,7 @@ use lib.Dec.{ltb}
 use lib.ListN.{length, take, drop, length-append}
 use Rattle.schedule.specs.Writing.{laid}
 use Rattle.text.specs.Put.{put, puts, putInto}
-use Rattle.record.proofs.Rest.{rest-is, rest-back, length-rest}
+use Rattle.basics.proofs.Rest.{rest-is, rest-back, length-rest}
 use Rattle.text.proofs.Puts.{roomy}
 use Rattle.run.specs.Filling.{Next, piece, nothing, Stop, stop, fillFrom}
 use Rattle.run.specs.Parts.{Reaches}

@@ -10,9 +10,9 @@ use lib.Dec.{leb}
 use lib.ListN.{length, take, drop, length-drop, take-append-drop}
 use lib.Seq.{take-length, length-take-le}
 use Rattle.record.specs.declared.Event.{Event}
-use Rattle.record.proofs.Rest.{rest-is, rest-back}
+use Rattle.basics.proofs.Rest.{rest-is, rest-back}
 use Rattle.table.specs.Events.{sizesFit}
-use Rattle.table.proofs.Tests.{if-le}
+use Rattle.basics.proofs.Tests.{if-le}
 use Rattle.numbers.specs.Numbers.{numberBytes}
 use Rattle.schedule.specs.declared.Header.{Header}
 use Rattle.schedule.specs.declared.Written.{Written}

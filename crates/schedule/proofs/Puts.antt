@@ -6,7 +6,7 @@ use native.Mathlib.Omega.{arith}
 use native.Mathlib.Numerals.{add-one}
 use lib.ListN.{length, take, drop, set, getD, length-set, length-drop, drop-of-length-le}
 use lib.Seq.{drop-cons, take-length}
-use Rattle.record.proofs.Rest.{copy-more}
+use Rattle.basics.proofs.Rest.{copy-more}
 use Rattle.numbers.specs.Numbers.{numberBytes}
 use Rattle.numbers.proofs.Sizes.{number-last, number-more, number-size}
 use Rattle.schedule.specs.Inside.Laying.{fitted}

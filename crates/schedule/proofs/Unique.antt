@@ -8,7 +8,7 @@ use lib.ListN.{length, length-append}
 use Rattle.record.specs.Event.{kindOf}
 use Rattle.record.specs.declared.Event.{Event}
 use Rattle.table.specs.Events.{sizesFit}
-use Rattle.table.proofs.Tests.{if}
+use Rattle.basics.proofs.Tests.{if}
 use Rattle.numbers.proofs.Sizes.{number-size}
 use Rattle.schedule.specs.declared.Header.{Header}
 use Rattle.schedule.specs.declared.Cursor.{Cursor}

@@ -4,7 +4,7 @@ use mathlib.Core.List.{List, _++_}
 use Prim.Native.Nat.{ℕ, _+_, _-_, min}
 use lib.Dec.{leb}
 use lib.ListN.{length, take, drop}
-use Rattle.record.specs.Over.{over}
+use Rattle.basics.specs.Over.{over}
 use Rattle.record.specs.declared.Event.{Event}
 use Rattle.table.specs.Events.{sizesFit}
 use Rattle.schedule.specs.declared.Header.{Header}

@@ -8,17 +8,18 @@ use Prim.Native.Nat.{ℕ, zero, suc, _≤_, _<_}
 use lib.Dec.{ltb, eqb}
 use lib.ListN.{length}
 use Rattle.record.specs.Record.{headNode, tailNode, Idle, True}
-use Rattle.record.specs.Event.{processOf, addressOf}
+use Rattle.record.specs.Event.{addressOf}
 use Rattle.record.specs.declared.Node.{Node}
 use Rattle.record.specs.declared.Process.{Process}
 use Rattle.record.specs.declared.Address.{Address}
+use Rattle.record.specs.declared.Action.{Action}
+use Rattle.record.specs.declared.Action.the-variants.{Insert, Delete, Find, Step, Stop, Restart}
 use Rattle.record.specs.declared.Event.{Event}
-use Rattle.record.specs.declared.Event.the-variants.{Insert, Delete, Find, Step, Stop, Restart}
 use Rattle.record.specs.declared.Outcome.{Outcome}
 use Rattle.record.specs.declared.Outcome.the-variants.{Refused, Accepted, Answered}
-use Rattle.table.specs.Words.{Memory, addressAt, linkAt, deleterAt, linkWord, targetOf, isMarked, noDeleter, deleterWord, inUse}
+use Rattle.table.specs.Words.{Memory, addressAt, linkAt, deleterAt, linkWord, isMarked, noDeleter, deleterWord, inUse}
 use Rattle.table.specs.Words.{addressLimit, rank}
-use Rattle.table.specs.Chain.{OnChain, Struck, Held}
+use Rattle.table.specs.Chain.{follows, OnChain, Struck, Held}
 use Rattle.table.specs.Events.{State, event, recordIn, sizesFit, tablesFit, fresh}
 use Rattle.table.specs.History.{Kind, insert, delete, find, Answer, Operation, Set, History, Order}
 
@@ -26,12 +27,12 @@ use Rattle.table.specs.History.{Kind, insert, delete, find, Answer, Oper
 
 pub record Quiet (σ : State) : Type 0 where
   -- the tables fit the sizes, and every process is idle
-  pub tables : tablesFit (σ .nodes) (σ .processes) (σ .memory) ≡ true
-  pub row : σ .processes ≤ length (σ .row)
-  pub idle : (p : Process) → p .0 < σ .processes → recordIn σ p .kept .status ≡ Idle
+  pub tables : tablesFit (σ .memory) ≡ true
+  pub row : σ .memory .processes ≤ length (σ .row)
+  pub idle : (p : Process) → p .0 < σ .memory .processes → recordIn σ p .kept .status ≡ Idle
   -- the chain from head rises strictly, is made of nodes in use, and ends in tail
-  pub rises : (n : Node) → OnChain (σ .memory) n → n .0 ≢ tailNode .0
-      → rank (σ .memory .addresses) n < rank (σ .memory .addresses) (targetOf (linkAt (σ .memory) n))
+  pub rises : (n : Node) → OnChain (σ .memory) n → n ≢ tailNode
+      → rank (σ .memory .addresses) n < rank (σ .memory .addresses) (follows (σ .memory) n)
   pub used : (n : Node) → OnChain (σ .memory) n → inUse (σ .memory) n ≡ true
   pub small : (n : Node) → OnChain (σ .memory) n → addressAt (σ .memory) n < addressLimit
   pub head : isMarked (linkAt (σ .memory) headNode) ≡ false
@@ -42,13 +43,13 @@ pub record Quiet (σ : State) : Type 0 where
 -- ---- operations and answers
 
 -- "Kinds 0, 1, 2: insert, delete, find of an address by an idle process." An operation is a request that was accepted.
-abbrev pub requestOf : Event → Option Answer → Option Operation
-requestOf (Insert p a) v = some (record { process = p; kind = insert; address = a; answer = v })
-requestOf (Delete p a) v = some (record { process = p; kind = delete; address = a; answer = v })
-requestOf (Find p a) v = some (record { process = p; kind = find; address = a; answer = v })
-requestOf (Step p) v = none
-requestOf (Stop p) v = none
-requestOf (Restart p) v = none
+abbrev pub requestOf : Process → Action → Option Answer → Option Operation
+requestOf p (Insert a) v = some (record { process = p; kind = insert; address = a; answer = v })
+requestOf p (Delete a) v = some (record { process = p; kind = delete; address = a; answer = v })
+requestOf p (Find a) v = some (record { process = p; kind = find; address = a; answer = v })
+requestOf p Step v = none
+requestOf p Stop v = none
+requestOf p Restart v = none
 
 abbrev pub ifAccepted : Outcome → Option Operation → Option Operation
 ifAccepted (Refused n) o = none
@@ -81,16 +82,16 @@ module _ (σ₀ : State) (e : ℕ → Event) where
   answer zero r = none
   answer (suc t) r =
       firstOf (answer t r)
-      (cond (ltb r t) (cond (eqb (processOf (e t) .0) (processOf (e r) .0)) (answerAt t (out t)) none) none)
+      (cond (ltb r t) (cond (eqb (e t .process .0) (e r .process .0)) (answerAt t (out t)) none) none)
 
   -- the operation that event r requests, as it stands after the first T events
   abbrev pub operation : (T r : ℕ) → Option Operation
-  operation T r = ifAccepted (out r) (requestOf (e r) (answer T r))
+  operation T r = ifAccepted (out r) (requestOf (e r .process) (e r .action) (answer T r))
 
   -- the history of the first T events
   abbrev pub history : (start : Set) (T : ℕ) → History
   history start T =
-      record { asked = λ r. operation T r; events = T; start = start; finish = λ a. Held (at T .memory) (a .0) }
+      record { asked = λ r. operation T r; events = T; start = start; finish = λ a. Held (at T .memory) a }
 
   -- ---- struck nodes
 
@@ -124,20 +125,20 @@ module _ (σ₀ : State) (e : ℕ → Event) where
   -- else the deleter's release of n is current, or, if n has no deleter, the operation that marked it is.
   pub record StruckOnce (T : ℕ) (n : Node) : Type 0 where
     pub once : (r r′ : ℕ) → ReleasedBy T n r → ReleasedBy T n r′ → r ≡ r′
-    pub struck : (t : ℕ) → t < T → Marks t n → (r : ℕ) × Current t (processOf (e t)) r
+    pub struck : (t : ℕ) → t < T → Marks t n → (r : ℕ) × Current t (e t .process) r
         × (((r′ : ℕ) × ReleasedBy T n r′)
         ⊎ (((p : Process) → deleterAt (at T .memory) n ≡ deleterWord p → (r′ : ℕ) × CurrentRelease T n p r′)
-        × (deleterAt (at T .memory) n ≡ noDeleter → CurrentRelease T n (processOf (e t)) r)))
+        × (deleterAt (at T .memory) n ≡ noDeleter → CurrentRelease T n (e t .process) r)))
 
 -- ---- demand 3
 
 -- requested addresses are 32-bit numbers
 abbrev pub AddressesFit : (ℕ → Event) → Type 0
-AddressesFit e = (t : ℕ) (a : Address) → addressOf (e t) ≡ some a → a .0 < addressLimit
+AddressesFit e = (t : ℕ) (a : Address) → addressOf (e t .action) ≡ some a → a .0 < addressLimit
 
 -- a plain set that is what is held
 abbrev pub IsHeld : Memory → Set → Type 0
-IsHeld m s = (a : Address) → (s a ≡ true) ↔ Held m (a .0)
+IsHeld m s = (a : Address) → (s a ≡ true) ↔ Held m a
 
 -- from any quiet state, with the set starting at what is held
 unfoldable pub Demand3 : Type 0

@@ -5,7 +5,7 @@ use Prim.Native.Nat.{ℕ}
 use lib.Dec.{eqb}
 use lib.ListN.{getD}
 use Rattle.record.specs.Record.{_▸_, _with_, to, pred≔, curr≔, succ≔, node≔, result≔, status≔, headNode, Idle, Inserts, Deletes}
-use Rattle.record.specs.Record.{NoAnswer, False, True, Fail}
+use Rattle.record.specs.Record.{noNode, NoAnswer, False, True, Fail}
 use Rattle.record.specs.declared.Node.{Node}
 use Rattle.record.specs.declared.Record.{Record}
 use Rattle.table.specs.Words.{linkWord, below, equal}
@@ -96,7 +96,7 @@ module _ (addresses : List ℕ) where
   row p13 r = ownRecord
       (cond (not (eqb (r .kept .result) NoAnswer)) (r ▸ 19 with r .kept .result)
       (cond (eqb (r .kept .kind) Inserts) (r ▸ to 0)
-      (cond (eqb (r .kept .kind) Deletes && not (eqb (nodeOf r own .0) 0)) (r ▸ to 15)
+      (cond (eqb (r .kept .kind) Deletes && not (eqb (nodeOf r own .0) (noNode .0))) (r ▸ to 15)
       (r ▸ 19 with Fail))))
   row p14 r = readLink own λ target mark. goes (cond mark (r ▸ 18 with True) (r ▸ 19 with Fail))
   row p15 r = readLink own λ target mark. goes (cond mark (r ▸ to 16) (r ▸ 19 with Fail))

@@ -4,7 +4,7 @@ use mathlib.Core.List.{List, [], _∷_}
 use mathlib.Core.Option.{some}
 use Prim.Native.Nat.{ℕ}
 use lib.Dec.{leb, eqb}
-use Rattle.record.specs.Record.{Finds, NoAnswer, Fail}
+use Rattle.record.specs.Record.{Finds, noNode, NoAnswer, Fail}
 use Rattle.record.specs.declared.Node.{Node}
 use Rattle.record.specs.declared.Process.{Process}
 use Rattle.record.specs.declared.Record.{Record}
@@ -87,7 +87,7 @@ module _ (used : Node → Bool) where
         | pred ↦ used (r .lost .pred)
         | curr ↦ used (r .lost .curr)
         | succ ↦ used (r .lost .succ)
-        | own ↦ not (eqb (r .kept .node .0) 0) && used (r .kept .node)
+        | own ↦ not (eqb (r .kept .node .0) (noNode .0)) && used (r .kept .node)
       ]
 
   abbrev pub allUsable : Record → List Field → Bool

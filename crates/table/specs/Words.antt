@@ -1,23 +1,50 @@
--- The words of 01, "What is stored" and "Sizes": the three tables and the count, links, deleters, the order of nodes, nodes in use.
+-- The words of 01, "What is stored" and "Sizes": the three tables, the count and the stated sizes; links, deleters, the order of nodes, nodes in use.
+-- Rests on the record.
 use mathlib.Core.Bool.{Bool, true, false, cond}
 use mathlib.Core.List.{List, _∷_}
 use Prim.Native.Nat.{ℕ, _+_, _-_, _*_, _/_, _%_}
 use lib.Dec.{ltb, eqb}
-use lib.ListN.{getD, set, replicate}
-use Rattle.record.specs.Record.{node, tailNode}
+use lib.ListN.{length, getD, set, replicate}
+use Rattle.record.specs.Record.{node, headNode, tailNode}
 use Rattle.record.specs.declared.Node.{Node}
 use Rattle.record.specs.declared.Process.{Process}
 use Rattle.record.specs.declared.Address.{Address}
 
--- "Each node has three words: address, link, deleter." "Nodes are given out in rising number; a count says how many"
+-- "Each node has three words: address, link, deleter." "Nodes are given out in rising number; a count says how many". Beside them the stated sizes:
+-- the number of nodes and the number of processes.
 pub record Memory : Type 0 where
   pub addresses : List ℕ
   pub links : List ℕ
   pub deleters : List ℕ
   pub count : ℕ
+  pub nodes : ℕ
+  pub processes : ℕ
 
-abbrev pub memory : List ℕ → List ℕ → List ℕ → ℕ → Memory
-memory addresses links deleters count = record { addresses = addresses; links = links; deleters = deleters; count = count }
+abbrev pub memory : (addresses links deleters : List ℕ) → (count nodes processes : ℕ) → Memory
+memory addresses links deleters count nodes processes =
+    record { addresses = addresses; links = links; deleters = deleters; count = count; nodes = nodes; processes = processes }
+
+-- the same but for one part
+abbrev pub addresses≔ : List ℕ → Memory → Memory
+addresses≔ words m = memory words (m .links) (m .deleters) (m .count) (m .nodes) (m .processes)
+
+abbrev pub links≔ : List ℕ → Memory → Memory
+links≔ words m = memory (m .addresses) words (m .deleters) (m .count) (m .nodes) (m .processes)
+
+abbrev pub deleters≔ : List ℕ → Memory → Memory
+deleters≔ words m = memory (m .addresses) (m .links) words (m .count) (m .nodes) (m .processes)
+
+abbrev pub count≔ : ℕ → Memory → Memory
+count≔ count m = memory (m .addresses) (m .links) (m .deleters) count (m .nodes) (m .processes)
+
+-- how many words each table has
+pub record Lengths : Type 0 where
+  pub addresses : ℕ
+  pub links : ℕ
+  pub deleters : ℕ
+
+unfoldable pub lengths : Memory → Lengths
+lengths m = record { addresses = length (m .addresses); links = length (m .links); deleters = length (m .deleters) }
 
 unfoldable pub addressAt : Memory → Node → ℕ
 addressAt m n = getD (m .addresses) (n .0) 0
@@ -45,8 +72,9 @@ noDeleter = 0
 abbrev pub deleterWord : Process → ℕ
 deleterWord p = p .0 + 1
 
--- A node in use is one that was given out: "not below the count" is not in use.
-abbrev pub inUse : Memory → Node → Bool
+-- A node in use is one that was given out: "not below the count" is not in use. What is needed of it beyond this line are the laws of
+-- proofs/laws/InUse.
+unfoldable pub inUse : Memory → Node → Bool
 inUse m n = ltb (n .0) (m .count)
 
 -- "Addresses: 0 to 4,294,967,295, all usable."
@@ -61,7 +89,7 @@ abbrev pub rankOf : Address → ℕ
 rankOf a = a .0 + 1
 
 unfoldable pub rank : List ℕ → Node → ℕ
-rank addresses n = cond (eqb (n .0) 0) 0 (cond (eqb (n .0) 1) aboveAll (getD addresses (n .0) 0 + 1))
+rank addresses n = cond (eqb (n .0) (headNode .0)) 0 (cond (eqb (n .0) (tailNode .0)) aboveAll (getD addresses (n .0) 0 + 1))
 
 -- a node sorts below an address, or has it
 abbrev pub below : List ℕ → Node → Address → Bool
@@ -83,8 +111,8 @@ pub data Write : Type 0 where
 
 unfoldable pub written : Write → Memory → Memory
 written nothing m = m
-written (linkIs n word) m = memory (m .addresses) (set (m .links) (n .0) word) (m .deleters) (m .count)
-written (deleterIs n word) m = memory (m .addresses) (m .links) (set (m .deleters) (n .0) word) (m .count)
+written (linkIs n word) m = links≔ (set (m .links) (n .0) word) m
+written (deleterIs n word) m = deleters≔ (set (m .deleters) (n .0) word) m
 
 -- ---- a node given out
 
@@ -92,23 +120,25 @@ written (deleterIs n word) m = memory (m .addresses) (m .links) (set (m .deleter
 abbrev pub nextNode : Memory → Node
 nextNode m = node (m .count)
 
+-- there is none: "the count equals the number of nodes"
+abbrev pub noneLeft : Memory → Bool
+noneLeft m = eqb (m .count) (m .nodes)
+
 -- "sets its address, links it unmarked to tail, deleter none"
 unfoldable pub givenOut : Address → Memory → Memory
 givenOut a m =
-    memory
-    (set (m .addresses) (m .count) (a .0))
-    (set (m .links) (m .count) (linkWord tailNode false))
-    (set (m .deleters) (m .count) noDeleter)
-    (m .count + 1)
+    let n = nextNode m .0 in
+    addresses≔ (set (m .addresses) n (a .0))
+    (links≔ (set (m .links) n (linkWord tailNode false)) (deleters≔ (set (m .deleters) n noDeleter) (count≔ (m .count + 1) m)))
 
 -- ---- fresh
 
 -- "Fresh: head links to tail, tail to itself, both unmarked; their address words are 0 and never read; all deleters are 0. Nodes not yet
 -- given out are all zero words." "a count .., starting at 2"
-unfoldable pub freshMemory : (nodes : ℕ) → Memory
-freshMemory nodes =
+unfoldable pub freshMemory : (nodes processes : ℕ) → Memory
+freshMemory nodes processes =
     memory
     (replicate nodes 0)
     (linkWord tailNode false ∷ linkWord tailNode false ∷ replicate (nodes - 2) 0)
     (replicate nodes noDeleter)
-    2
+    2 nodes processes

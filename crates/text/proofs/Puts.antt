@@ -10,7 +10,7 @@ use borrow.Rule.Slice.PartMut.{putMid}
 use lib.ListN.{length, take, drop, set, length-append, length-set}
 use lib.Seq.{drop-cons, set-append-seam, take-append-seam, drop-append-seam, take-append-le, drop-append-add, drop-drop, take-all}
 use lib.Seq.{getD-set-same, drop-set-lt, sets, sets-eq}
-use Rattle.record.proofs.Rest.{rest-is, rest-back}
+use Rattle.basics.proofs.Rest.{rest-is, rest-back}
 use Rattle.text.specs.Put.{Put, put, puts, putInto}
 use Rattle.text.specs.Digits.{lastDigits, Begun}
 

@@ -4,7 +4,7 @@ use mathlib.Core.List.{List}
 use Prim.Native.Nat.{ℕ}
 use lib.Dec.{ltb}
 use lib.ListN.{length}
-use Rattle.record.specs.Over.{over}
+use Rattle.basics.specs.Over.{over}
 
 -- the part afterwards, and how many bytes were put at its start
 pub record Put : Type 0 where

@@ -1,17 +1,28 @@
--- The promise of `swap` leaves one outcome, by its table and its answer; each other is of the form `r ≡ x`, or, of `write`, says so of the table
--- afterwards: the record's `answer-unique`. Rests on Lent.
+-- The promises of `swap` and of `in_use` leave one outcome; each other is of the form `r ≡ x`, or, of `write`, says so of the table afterwards: the
+-- basics' `answer-unique`. Rests on LentMemory and LentWords.
 use mathlib.Core.Path.{_≡_, sym, ap, _∙_}
 use mathlib.Core.Bool.{Bool}
 use mathlib.Core.List.{List}
 use Prim.Native.Nat.{ℕ}
 use Rattle.record.specs.declared.Node.{Node}
-use Rattle.words.specs.Lent.{Swapped, swapped, swapOf}
+use Rattle.table.specs.Words.{Memory, links≔, inUse, freshMemory}
+use Rattle.words.specs.declared.Sizes.{Sizes}
+use Rattle.words.specs.declared.Swapped.{Swapped}
+use Rattle.words.specs.LentMemory.{sized}
+use Rattle.words.specs.LentWords.{SwapLeft, swapLeft, swapOf}
 
-pub swap-unique : (words : List ℕ) (n : Node) (expected new : ℕ) (words′ words″ : List ℕ) (wrote′ wrote″ : Bool) →
-    swapped words′ wrote′ ≡ swapOf words n expected new →
-    swapped words″ wrote″ ≡ swapOf words n expected new →
-    (words′ ≡ words″) × (wrote′ ≡ wrote″)
-swap-unique words n expected new words′ words″ wrote′ wrote″ one other = (
-  ap (λ (x : Swapped). x .words) (one ∙ sym other),
-  ap (λ (x : Swapped). x .wrote) (one ∙ sym other),
+pub swap-unique : (words : List ℕ) (n : Node) (expected new : ℕ) (words′ words″ : List ℕ) (answer′ answer″ : Swapped) →
+    swapLeft words′ answer′ ≡ swapOf words n expected new →
+    swapLeft words″ answer″ ≡ swapOf words n expected new →
+    (words′ ≡ words″) × (answer′ ≡ answer″)
+swap-unique words n expected new words′ words″ answer′ answer″ one other = (
+  ap (λ (x : SwapLeft). x .words) (one ∙ sym other),
+  ap (λ (x : SwapLeft). x .answer) (one ∙ sym other),
 )
+
+-- what is promised of every memory is promised of a fresh one
+pub in-use-unique : (links : List ℕ) (sizes : Sizes) (n : Node) (a b : Bool) →
+    ((m : Memory) → a ≡ inUse (sized sizes (links≔ links m)) n) →
+    ((m : Memory) → b ≡ inUse (sized sizes (links≔ links m)) n) →
+    a ≡ b
+in-use-unique links sizes n a b one other = let m = freshMemory 2 1 in one m ∙ sym (other m)

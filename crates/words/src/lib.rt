@@ -3,9 +3,10 @@
 ghost use mathlib.Core.Path.{_≡_};
 ghost use Prim.Native.Nat.{_%_};
 ghost use lib.ListN.{getD, set};
-ghost use Rattle.table.specs.Words.{linkWord, targetOf, isMarked, rank, rankOf};
+ghost use Rattle.table.specs.Words.{Memory, links≔, linkWord, targetOf, isMarked, inUse, rank, rankOf};
 ghost use Rattle.table.specs.Events.{sizesFit, tablesFit};
-ghost use Rattle.words.specs.Lent.{lentMemory, usedBelow, orderOf, swapped, swapOf};
+ghost use Rattle.words.specs.LentMemory.{lentMemory, sized};
+ghost use Rattle.words.specs.LentWords.{comparedOf, swapLeft, swapOf};
 use record::Address;
 use record::HEAD;
 use record::Node;
@@ -19,9 +20,15 @@ pub struct Sizes {
 }
 
 // How a node stands to an address.
-pub struct Order {
+pub struct Compared {
     pub below: bool,
     pub equal: bool,
+}
+
+// What a swap comes to: whether it wrote, and the word found.
+pub struct Swapped {
+    pub wrote: bool,
+    pub found: u32,
 }
 
 // Whether the sizes are within the limits.
@@ -33,23 +40,20 @@ pub fn sizes_fit(nodes: u32, processes: u32) -> bool
 
 // Whether they are, and the lent tables long enough for them, and the count within the nodes.
 pub fn tables_fit(addresses: &[u32], links: &[u32], deleters: &[u32], sizes: Sizes) -> bool
-    ensures { λ r. ⌜ r ≡ tablesFit (sizes .nodes) (sizes .processes)
-        (lentMemory (now (addresses .entry)) (now (links .entry)) (now (deleters .entry)) sizes) ⌝ }
+    ensures { λ r. ⌜ r ≡ tablesFit (lentMemory (now (addresses .entry)) (now (links .entry)) (now (deleters .entry)) sizes) ⌝ }
 {
     let nodes = sizes.nodes as usize;
     sizes_fit(sizes.nodes, sizes.processes)
-        & (nodes <= addresses.len())
-        & (nodes <= links.len())
-        & (nodes <= deleters.len())
+        & ((nodes <= addresses.len()) & (nodes <= links.len()) & (nodes <= deleters.len()))
         & (2 <= sizes.count)
         & (sizes.count <= sizes.nodes)
 }
 
-// Whether a node was given out.
-pub fn in_use(n: Node, count: u32) -> bool
-    ensures { λ r. ⌜ r ≡ usedBelow count n ⌝ }
+// Whether a node is in use: in any memory that has these links and sizes.
+pub fn in_use(links: &[u32], sizes: Sizes, n: Node) -> bool
+    ensures { λ r. ⌜ ((m : Memory) → r ≡ inUse (sized sizes (links≔ (now (links .entry)) m)) n) ⌝ }
 {
-    n.0 < count
+    n.0 < sizes.count
 }
 
 // The link word of a target and a mark, as far as 32 bits go; those of any list's nodes do.
@@ -112,12 +116,12 @@ pub fn rank_of(addresses: &[u32], n: Node) -> u64
 }
 
 // How a node stands to an address.
-pub fn compare(addresses: &[u32], n: Node, address: Address) -> Order
-    ensures { λ r. ⌜ r ≡ orderOf (now (addresses .entry)) n address ⌝ }
+pub fn compare(addresses: &[u32], n: Node, address: Address) -> Compared
+    ensures { λ r. ⌜ r ≡ comparedOf (now (addresses .entry)) n address ⌝ }
 {
     let node_rank = rank_of(addresses, n);
     let rank = address_rank(address);
-    Order {
+    Compared {
         below: node_rank < rank,
         equal: node_rank == rank,
     }
@@ -133,14 +137,17 @@ pub fn write(words: &mut [u32], n: Node, word: u32)
     }
 }
 
-// Compares the whole word and writes only if equal; whether it wrote.
-pub fn swap(words: &mut [u32], n: Node, expected: u32, new: u32) -> bool
-    ensures { λ r. ⌜ swapped (now (words .exit)) r ≡ swapOf (now (words .entry)) n expected new ⌝ }
+// Compares the whole word and writes only if equal; whether it wrote, and the word found.
+pub fn swap(words: &mut [u32], n: Node, expected: u32, new: u32) -> Swapped
+    ensures { λ r. ⌜ swapLeft (now (words .exit)) r ≡ swapOf (now (words .entry)) n expected new ⌝ }
 {
     let found = word_at(words, n);
     if found == expected {
         write(words, n, new);
-        return true;
+        return Swapped { wrote: true, found };
     }
-    false
+    Swapped {
+        wrote: false,
+        found,
+    }
 }

@@ -16,7 +16,7 @@ use Rattle.walks.proofs.Tables.{last-together, asked}
 use denote.Struct.Laws as struct
 use Rattle.record.specs.Record.{freshRecord}
 use Rattle.record.specs.declared.Record.{Record}
-use Rattle.record.specs.Over.{over}
+use Rattle.basics.specs.Over.{over}
 use Rattle.fresh.specs.declared.Beside.{Beside}
 use Rattle.fresh.specs.Fresh.{listLeft, freshList}
 use Rattle.fresh.proofs.Beside as beside

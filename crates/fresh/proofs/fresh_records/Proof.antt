@@ -21,7 +21,7 @@ use Rattle.record.specs.declared.Record.{Record}
 use Rattle.record.proofs.Record.fresh.Symbol as fresh-def
 use Rattle.record.proofs.Record.fresh.Symbol.{name as #fresh}
 use Rattle.record.proofs.Record.fresh.Met as fresh-thm
-use Rattle.record.specs.Over.{over}
+use Rattle.basics.specs.Over.{over}
 use Rattle.fresh.proofs.Over.{one-more-laid, laid-length}
 use Rattle.fresh.proofs.fresh_records.Key.{name as #own}
 use Rattle.fresh.proofs.fresh_records as fn

@@ -1,5 +1,5 @@
 -- The first that is not 0.
-use Rattle.record.proofs.Conds.{conds}
+use Rattle.basics.proofs.Conds.{conds}
 use borrow.Author.Needs.{needs}
 use Rattle.record.proofs.first.Statement.{statement}
 use Rattle.record.proofs.first.Tie as tie

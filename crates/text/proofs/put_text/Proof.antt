@@ -6,7 +6,7 @@ use mathlib.Core.List.{_++_}
 use lib.ListN.{length, length-set, drop, take}
 use lib.Seq.{take-length}
 use borrow.Author.Needs.{needs}
-use Rattle.record.proofs.Rest.{copy-more}
+use Rattle.basics.proofs.Rest.{copy-more}
 use Rattle.text.proofs.put_text.Statement.{statement}
 use Rattle.text.proofs.put_text.Tie as tie
 

@@ -1,5 +1,5 @@
 -- By their ranks.
-use Rattle.words.specs.Lent.{orderOf}
+use Rattle.words.specs.LentWords.{comparedOf}
 use borrow.Author.Needs.{needs}
 use Rattle.words.proofs.compare.Statement.{statement}
 use Rattle.words.proofs.compare.Tie as tie
@@ -11,7 +11,7 @@ address-rank-requires : tie.Need-address-rank-requires
 address-rank-requires c κs = search needs
 
 returns : tie.Need-returns
-unfolding orderOf
+unfolding comparedOf
 returns c = rw (c .address-rank .ensures, c .before .rank-of .ensures)
 
 pub compare-spec : {M : Type 1} → statement M

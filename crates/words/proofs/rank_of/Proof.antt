@@ -1,5 +1,5 @@
 -- Head, tail, and the nodes between.
-use Rattle.record.proofs.Conds.{conds}
+use Rattle.basics.proofs.Conds.{conds}
 use Rattle.table.specs.Words.{rank}
 use borrow.Author.Needs.{needs}
 use Rattle.words.proofs.rank_of.Statement.{statement}

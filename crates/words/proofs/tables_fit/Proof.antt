@@ -1,4 +1,5 @@
 -- The tests are those of the definition.
+use Rattle.table.specs.Words.{lengths}
 use Rattle.table.specs.Events.{tablesFit}
 use borrow.Author.Needs.{needs}
 use Rattle.words.proofs.tables_fit.Statement.{statement}
@@ -11,7 +12,7 @@ sizes-fit-requires : tie.Need-sizes-fit-requires
 sizes-fit-requires c κs = search needs
 
 returns : tie.Need-returns
-unfolding tablesFit
+unfolding tablesFit lengths
 returns c = rw (c .before .before .sizes-fit .ensures)
 
 pub tables-fit-spec : {M : Type 1} → statement M

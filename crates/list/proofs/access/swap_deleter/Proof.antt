@@ -1,5 +1,5 @@
 -- A swap where the row is accepted, and none where it is not.
-use Rattle.record.proofs.Conds.{conds}
+use Rattle.basics.proofs.Conds.{conds}
 use Rattle.list.proofs.Tested.{where-accepted}
 use Rattle.list.specs.Parts.{swapWhere}
 use borrow.Author.Needs.{needs}

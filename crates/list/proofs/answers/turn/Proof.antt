@@ -1,5 +1,5 @@
 -- Accepted, or refused.
-use Rattle.record.proofs.Conds.{conds}
+use Rattle.basics.proofs.Conds.{conds}
 use Rattle.list.specs.Parts.{turnOf}
 use borrow.Author.Needs.{needs}
 use Rattle.list.proofs.answers.turn.Statement.{statement}

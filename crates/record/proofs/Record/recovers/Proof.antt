@@ -1,5 +1,5 @@
 -- Won or not.
-use Rattle.record.proofs.Conds.{conds}
+use Rattle.basics.proofs.Conds.{conds}
 use borrow.Author.Needs.{needs}
 use Rattle.record.proofs.Record.recovers.Statement.{statement}
 use Rattle.record.proofs.Record.recovers.Tie as tie

@@ -7,7 +7,7 @@ lost-at-requires : tie.Need-lost-at-requires
 lost-at-requires c κs = search needs
 
 returns : tie.Need-returns
-returns c = rw (c .lost-at .ensures)
+returns c = rw (c .before .lost-at .ensures)
 
 pub request-spec : {M : Type 1} → statement M
 request-spec = tie.close (tie.spec lost-at-requires returns)

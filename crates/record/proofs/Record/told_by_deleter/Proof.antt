@@ -1,5 +1,5 @@
 -- The process's or another's.
-use Rattle.record.proofs.Conds.{conds}
+use Rattle.basics.proofs.Conds.{conds}
 use borrow.Author.Needs.{needs}
 use Rattle.record.proofs.Record.told_by_deleter.Statement.{statement}
 use Rattle.record.proofs.Record.told_by_deleter.Tie as tie

@@ -1,5 +1,5 @@
 -- By the test on the steps left.
-use Rattle.record.proofs.Conds.{conds}
+use Rattle.basics.proofs.Conds.{conds}
 use borrow.Author.Needs.{needs}
 use Rattle.run.proofs.keys.walk_within.Statement.{statement}
 use Rattle.run.proofs.keys.walk_within.Tie as tie

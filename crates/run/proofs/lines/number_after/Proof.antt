@@ -1,5 +1,5 @@
 -- By the test on the number.
-use Rattle.record.proofs.Conds.{conds}
+use Rattle.basics.proofs.Conds.{conds}
 use Rattle.run.specs.Pieces.{nextNumber}
 use borrow.Author.Needs.{needs}
 use Rattle.run.proofs.lines.number_after.Statement.{statement}

@@ -1,7 +1,7 @@
 -- The line, then the word `keys` into the rest.
 use native.Mathlib.Omega.{arith}
 use mathlib.Core.Path.{_∙_}
-use Rattle.record.proofs.Rest.{length-rest}
+use Rattle.basics.proofs.Rest.{length-rest}
 use Rattle.text.proofs.Puts.{put-then, roomy}
 use Rattle.run.specs.Parts.{stoppedText}
 use Rattle.text.specs.Text.{line, keysWord}

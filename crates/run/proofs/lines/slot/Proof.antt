@@ -1,5 +1,5 @@
 -- By the test on the process number.
-use Rattle.record.proofs.Conds.{conds}
+use Rattle.basics.proofs.Conds.{conds}
 use Rattle.run.specs.Parts.{slotOf}
 use borrow.Author.Needs.{needs}
 use Rattle.run.proofs.lines.slot.Statement.{statement}

@@ -1,6 +1,6 @@
 -- By the count.
 use borrow.Author.Needs.{needs}
-use Rattle.record.proofs.Conds.{conds}
+use Rattle.basics.proofs.Conds.{conds}
 use Rattle.schedule.specs.Inside.Continuing.{burstOf}
 use Rattle.schedule.proofs.reading.burst.Statement.{statement}
 use Rattle.schedule.proofs.reading.burst.Tie as tie

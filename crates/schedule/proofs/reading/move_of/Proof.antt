@@ -1,6 +1,6 @@
 -- By the kind.
 use borrow.Author.Needs.{needs}
-use Rattle.record.proofs.Conds.{conds}
+use Rattle.basics.proofs.Conds.{conds}
 use Rattle.schedule.proofs.reading.move_of.Statement.{statement}
 use Rattle.schedule.proofs.reading.move_of.Tie as tie
 

@@ -1,3 +1,4 @@
+pub mod Tests
 pub mod Conds
 pub mod Rest
 pub mod Unique

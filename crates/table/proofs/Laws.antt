@@ -1,0 +1,3 @@
+pub mod Fitting
+pub mod InUse
+pub mod Meets

@@ -1,0 +1,98 @@
+-- Sizes within the limits and tables that fit, as inequalities and back; the lengths of tables. Rests on Events.
+use mathlib.Core.Path.{_≡_, refl, ap, subst}
+use mathlib.Core.Bool.{Bool, true, _&&_}
+use mathlib.Core.List.{[], _∷_}
+use Prim.Native.Nat.{ℕ, _≤_}
+use lib.Dec.{leb}
+use lib.ListN.{length-set}
+use borrow.Author.Tests.{leb-true, le-leb}
+use Rattle.record.specs.declared.Address.{Address}
+use Rattle.basics.proofs.Tests.{each-true}
+use Rattle.table.specs.Words.{Memory, Lengths, lengths, Write, nothing, linkIs, deleterIs, written, givenOut}
+use Rattle.table.specs.Events.{sizesFit, longEnough, tablesFit}
+
+-- "Nodes: 2 to 4,096 .. Processes: 1 to 64"
+pub record Limits (nodes processes : ℕ) : Type 0 where
+  pub two : 2 ≤ nodes
+  pub few : nodes ≤ 4096
+  pub some : 1 ≤ processes
+  pub few-processes : processes ≤ 64
+
+pub limits-of : (nodes processes : ℕ) → sizesFit nodes processes ≡ true → Limits nodes processes
+unfolding sizesFit
+limits-of nodes processes h =
+    let c = each-true (leb 2 nodes) (leb nodes 4096 ∷ leb 1 processes ∷ leb processes 64 ∷ []) h in
+    record {
+      two = leb-true 2 nodes (c 0);
+      few = leb-true nodes 4096 (c 1);
+      some = leb-true 1 processes (c 2);
+      few-processes = leb-true processes 64 (c 3);
+    }
+
+-- ---- lengths
+
+-- each table has a word for each of so many nodes
+pub record LongEnough (nodes : ℕ) (long : Lengths) : Type 0 where
+  pub addresses : nodes ≤ long .addresses
+  pub links : nodes ≤ long .links
+  pub deleters : nodes ≤ long .deleters
+
+pub long-of : (nodes : ℕ) (long : Lengths) → longEnough nodes long ≡ true → LongEnough nodes long
+long-of nodes long h =
+    let c = each-true (leb nodes (long .addresses)) (leb nodes (long .links) ∷ leb nodes (long .deleters) ∷ []) h in
+    record {
+      addresses = leb-true nodes (long .addresses) (c 0);
+      links = leb-true nodes (long .links) (c 1);
+      deleters = leb-true nodes (long .deleters) (c 2);
+    }
+
+pub long-is : (nodes : ℕ) (long : Lengths) → LongEnough nodes long → longEnough nodes long ≡ true
+long-is nodes long o =
+    rw (le-leb nodes (long .addresses) (o .addresses), le-leb nodes (long .links) (o .links), le-leb nodes (long .deleters) (o .deleters))
+
+-- no table grows or shrinks
+abbrev pub AsLong : Memory → Memory → Type 0
+AsLong m m′ = lengths m′ ≡ lengths m
+
+pub written-as-long : (f : Write) (m : Memory) → AsLong m (written f m)
+unfolding written lengths
+written-as-long nothing m = refl
+written-as-long (linkIs n w) m = rw (length-set (m .links) (n .0) w)
+written-as-long (deleterIs n w) m = rw (length-set (m .deleters) (n .0) w)
+
+pub given-as-long : (a : Address) (m : Memory) → AsLong m (givenOut a m)
+unfolding givenOut lengths
+given-as-long a m = rw (length-set (m .addresses) _ _, length-set (m .links) _ _, length-set (m .deleters) _ _)
+
+-- ---- room: the tables reach over the nodes, and the count lies within
+
+pub record Room (m : Memory) : Type 0 where
+  pub long : LongEnough (m .nodes) (lengths m)
+  pub least : 2 ≤ m .count
+  pub most : m .count ≤ m .nodes
+
+module _ (m : Memory) where
+  abbrev fits : Bool
+  fits = sizesFit (m .nodes) (m .processes)
+
+  abbrev reaches : Bool
+  reaches = longEnough (m .nodes) (lengths m)
+
+  pub room-of : tablesFit m ≡ true → Room m
+  unfolding tablesFit
+  room-of h = let c = each-true fits (reaches ∷ leb 2 (m .count) ∷ leb (m .count) (m .nodes) ∷ []) h in record {
+    long = long-of (m .nodes) (lengths m) (c 1);
+    least = leb-true 2 (m .count) (c 2);
+    most = leb-true (m .count) (m .nodes) (c 3);
+  }
+
+  pub sizes-of : tablesFit m ≡ true → sizesFit (m .nodes) (m .processes) ≡ true
+  unfolding tablesFit
+  sizes-of h = each-true fits (reaches ∷ leb 2 (m .count) ∷ leb (m .count) (m .nodes) ∷ []) h 0
+
+  pub limits : tablesFit m ≡ true → Limits (m .nodes) (m .processes)
+  limits h = limits-of (m .nodes) (m .processes) (sizes-of h)
+
+  pub fit-of : sizesFit (m .nodes) (m .processes) ≡ true → Room m → tablesFit m ≡ true
+  unfolding tablesFit
+  fit-of s o = rw (s, long-is (m .nodes) (lengths m) (o .long), le-leb 2 (m .count) (o .least), le-leb (m .count) (m .nodes) (o .most))

@@ -1,0 +1,105 @@
+-- What every outcome of an event meets, if each of its branches does: one law for each definition that branches. Rests on Events.
+use mathlib.Core.Path.{_≡_, refl, sym, ap, _∙_}
+use mathlib.Core.Bool.{Bool, true, false, cond, false≢true}
+use Prim.Native.Nat.{ℕ, _≤_, _<_}
+use lib.Dec.{ltb, eqb}
+use lib.ListN.{length}
+use lib.Seq.{set-getD}
+use borrow.Author.Tests.{le-leb, lt-leb, le-ltb}
+use Rattle.record.specs.Record.{freshRecord, requested, Inserts}
+use Rattle.record.specs.Event.{refusalIn}
+use Rattle.record.specs.declared.Process.{Process}
+use Rattle.record.specs.declared.Address.{Address}
+use Rattle.record.specs.declared.Record.{Record}
+use Rattle.record.specs.declared.Action.{Action}
+use Rattle.record.specs.declared.Action.the-variants.{Insert}
+use Rattle.record.specs.declared.Event.{Event}
+use Rattle.record.specs.declared.Outcome.the-variants.{Refused, Accepted}
+use Rattle.table.specs.Words.{Memory, givenOut, nextNode, noneLeft, written}
+use Rattle.table.specs.Steps.{turnIn}
+use Rattle.table.specs.Events.{Left, leaving, refused, step, does, statusNeeded, tablesFit, act, State, recordIn, Leaves, leavesIn}
+use Rattle.table.specs.Events.{stored, event}
+use Rattle.basics.proofs.Tests.{if, if-le, by-test}
+
+module _ (P : Left → Type 0) (m : Memory) (p : Process) (r : Record) where
+  pub step-meets : (turnIn m p r .fits ≡ true → P (leaving (written (turnIn m p r .writes) m) (turnIn m p r .after) (turnIn m p r .says)))
+      → P (refused m r 8) → P (step m p r)
+  unfolding step
+  step-meets done refusal = if P (turnIn m p r .fits) done (λ unfit. refusal)
+
+  pub insert-meets : (a : Address) → (noneLeft m ≡ true → P (refused m r 3))
+      → (noneLeft m ≡ false → P (leaving (givenOut a m) (requested 0 Inserts a (nextNode m) r) Accepted)) → P (does m p r (Insert a))
+  unfolding does
+  insert-meets a refusal done = if P (noneLeft m) refusal done
+
+  -- 7, 1, 2 in this order, or what is done; each with what was found before it
+  judged-meets : (fit there ready : Bool) (d : Left) → (fit ≡ false → P (refused m r 7)) → (fit ≡ true → there ≡ false → P (refused m r 1))
+      → (fit ≡ true → there ≡ true → ready ≡ false → P (refused m r 2)) → (fit ≡ true → there ≡ true → ready ≡ true → P d)
+      → P (cond (eqb (refusalIn fit there ready) 0) d (refused m r (refusalIn fit there ready)))
+  unfolding refusalIn
+  judged-meets true true true d unfit beyond other done = done refl refl refl
+  judged-meets true true false d unfit beyond other done = other refl refl refl
+  judged-meets true false ready d unfit beyond other done = beyond refl refl
+  judged-meets false there ready d unfit beyond other done = unfit refl
+
+  module _ (x : Action) where
+    abbrev fit : Bool
+    fit = tablesFit m
+
+    abbrev there : Bool
+    there = ltb (p .0) (m .processes)
+
+    abbrev ready : Bool
+    ready = eqb (r .kept .status) (statusNeeded x)
+
+    pub act-judged : (fit ≡ false → P (refused m r 7)) → (fit ≡ true → there ≡ false → P (refused m r 1))
+        → (fit ≡ true → there ≡ true → ready ≡ false → P (refused m r 2))
+        → (fit ≡ true → there ≡ true → ready ≡ true → P (does m p r x)) → P (act m p r x)
+    unfolding act
+    act-judged = judged-meets fit there ready (does m p r x)
+
+    pub act-meets : ((n : ℕ) → P (leaving m r (Refused n))) → (fit ≡ true → there ≡ true → P (does m p r x)) → P (act m p r x)
+    act-meets refusal done = act-judged (λ f. refusal 7) (λ f t. refusal 1) (λ f t s. refusal 2) (λ f t s. done f t)
+
+-- a refusal leaves every record as it was
+pub refused-stored : (σ : State) (p : Process) (n : ℕ) → stored σ p (leaving (σ .memory) (recordIn σ p) (Refused n)) ≡ leavesIn σ (Refused n)
+unfolding stored recordIn
+refused-stored σ p n = rw (set-getD (σ .row) (p .0) freshRecord)
+
+-- refused for its tables or its process: with whatever record
+pub refused-anywhere : (m : Memory) (p : Process) (r : Record) (x : Action) → (tablesFit m ≡ true → ltb (p .0) (m .processes) ≡ true → ⊥)
+    → act m p r x ≡ leaving m r (cond (tablesFit m) (Refused 1) (Refused 7))
+refused-anywhere m p r x never =
+    act-judged (λ d. d ≡ leaving m r (cond (tablesFit m) (Refused 1) (Refused 7))) m p r x
+    (λ unfit. rw unfit refl) (λ fit beyond. rw fit refl) (λ fit there other. absurd (never fit there)) (λ fit there ready. absurd (never fit there))
+
+-- ---- an event in a row of records
+
+module _ (σ : State) (e : Event) where
+  abbrev done : Leaves
+  done = stored σ (e .process) (act (σ .memory) (e .process) (recordIn σ (e .process)) (e .action))
+
+  pub event-meets : (P : Leaves → Type 0) → (σ .memory .processes ≤ length (σ .row) → P done) → P (leavesIn σ (Refused 7)) → P (event σ e)
+  unfolding event
+  event-meets P long short = if-le P (σ .memory .processes) (length (σ .row)) long (λ few. short)
+
+  -- in a row that is long enough
+  pub event-in-row : σ .memory .processes ≤ length (σ .row) → event σ e ≡ done
+  unfolding event
+  event-in-row long = rw (le-leb (σ .memory .processes) (length (σ .row)) long)
+
+  pub event-in-short-row : length (σ .row) < σ .memory .processes → event σ e ≡ leavesIn σ (Refused 7)
+  unfolding event
+  event-in-short-row short = rw (lt-leb (σ .memory .processes) (length (σ .row)) short)
+
+  -- of a process that is not there, whatever record it is worked on: nothing is stored
+  pub event-of-nobody : σ .memory .processes ≤ length (σ .row) → σ .memory .processes ≤ e .process .0 → (r : Record)
+      → event σ e ≡ leavesIn σ (act (σ .memory) (e .process) r (e .action) .outcome)
+  event-of-nobody long beyond r =
+      event-in-row long
+      ∙ ap (stored σ (e .process)) (refused-anywhere (σ .memory) (e .process) (recordIn σ (e .process)) (e .action) never)
+      ∙ by-test (tablesFit (σ .memory)) (λ fit. rw fit (refused-stored σ (e .process) 1)) (λ unfit. rw unfit (refused-stored σ (e .process) 7))
+      ∙ ap (λ (d : Left). leavesIn σ (d .outcome)) (sym (refused-anywhere (σ .memory) (e .process) r (e .action) never))
+    where
+      never : tablesFit (σ .memory) ≡ true → ltb (e .process .0) (σ .memory .processes) ≡ true → ⊥
+      never fit there = false≢true (sym (le-ltb (e .process .0) (σ .memory .processes) beyond) ∙ there)

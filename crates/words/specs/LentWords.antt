@@ -1,0 +1,32 @@
+-- What is asked of the words of one lent table, spelt with this crate's types. Rests on the table's Words.
+use mathlib.Core.Bool.{Bool, cond}
+use mathlib.Core.List.{List}
+use Prim.Native.Nat.{ℕ}
+use lib.ListN.{getD, set}
+use Rattle.record.specs.declared.Node.{Node}
+use Rattle.record.specs.declared.Address.{Address}
+use Rattle.table.specs.Words.{swaps, below, equal}
+use Rattle.words.specs.declared.Compared.{Compared}
+use Rattle.words.specs.declared.Swapped.{Swapped}
+
+-- how a node stands to an address
+unfoldable pub comparedOf : List ℕ → Node → Address → Compared
+comparedOf addresses n a = record { below = below addresses n a; equal = equal addresses n a }
+
+-- the table after a swap, and its answer: whether it wrote, and the word found
+pub record SwapLeft : Type 0 where
+  pub words : List ℕ
+  pub answer : Swapped
+
+abbrev pub swapLeft : List ℕ → Swapped → SwapLeft
+swapLeft words answer = record { words = words; answer = answer }
+
+abbrev pub swapped : (wrote : Bool) → (found : ℕ) → Swapped
+swapped wrote found = record { wrote = wrote; found = found }
+
+-- a swap of a node's word
+unfoldable pub swapOf : List ℕ → Node → (expected new : ℕ) → SwapLeft
+swapOf words n expected new =
+    let found = getD words (n .0) 0 in
+    let wrote = swaps found expected in
+    swapLeft (cond wrote (set words (n .0) new) words) (swapped wrote found)
