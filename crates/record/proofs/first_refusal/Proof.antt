@@ -29,7 +29,7 @@ first-requires c κs = search needs
 returns : tie.Need-returns
 returns c =
     rw (c .first .ensures, c .before .unless3 .ensures, c .before .before .unless2 .ensures, c .before .before .before .unless .ensures)
-    (let a = c .before .before .before .before .args in in-order (a .fits) (a .there) (a .ready))
+    (let tested = c .before .before .before in let a = tested .before .args in in-order (a .fits) (a .there) (a .ready))
 
 pub first-refusal-spec : {M : Type 1} → statement M
 first-refusal-spec =

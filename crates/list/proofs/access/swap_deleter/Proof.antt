@@ -24,8 +24,8 @@ same-length c = search needs
 returns : tie.Need-returns
 returns c m =
     let made = c .before .before in
-    let tested = made .before .before .before .before in
-    search (needs, deleter-swapped, tested .before .usable .ensures)
+    let worded = made .before .before .before in
+    search (needs, deleter-swapped, worded .before .before .usable .ensures)
 
 no-swap-requires : tie.Need-no-swap-requires
 no-swap-requires c κs = search needs

@@ -30,8 +30,9 @@ same-length c = search needs
 returns : tie.Need-returns
 returns c m =
     let made = c .before .before in
-    let tested = made .before .before .before .before .before in
-    search (needs, link-written, tested .before .usable2 .ensures, tested .before .before .before .usable .ensures)
+    let worded = made .before .before .before in
+    let tested = worded .before .before .before in
+    search (needs, link-written, tested .usable2 .ensures, tested .before .before .usable .ensures)
 
 same-length-2 : tie.Need-same-length-2
 same-length-2 c = search needs

@@ -28,9 +28,10 @@ same-length-3 c = search needs
 returns : tie.Need-returns
 returns c m next =
     let last = c .before .before in
-    let linked = last .before .before .before .before in
-    let addressed = linked .before .before .before .before in
-    given m _ _ _ _ _ _ _ _ _ next (addressed .before .before .link-word .ensures) (addressed .write .ensures) (linked .write2 .ensures)
+    let linked = last .before .before .before in
+    let addressed = linked .before .before .before in
+    let worded = addressed .before .before .before in
+    given m _ _ _ _ _ _ _ _ _ next (worded .before .link-word .ensures) (addressed .before .before .write .ensures) (linked .before .write2 .ensures)
     (last .write3 .ensures)
 
 pub give-out-spec : {M : Type 1} → statement M

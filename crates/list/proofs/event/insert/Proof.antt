@@ -36,9 +36,9 @@ returns-2 : tie.Need-returns-2
 returns-2 c p =
     let more = c .before .before in
     let given = more .before .before .before in
-    let gave = given .before .before .before .before in
-    let tested = gave .before .before .before .before in
-    takes _ _ _ _ p _ _ _ _ _ _ _ _ (gave .give-out .ensures) (tested .if1 .left) (more .one-more .ensures) (c .accepted .ensures)
+    let gave = given .before .before .before in
+    let tested = gave .before .before .before in
+    takes _ _ _ _ p _ _ _ _ _ _ _ _ (gave .before .give-out .ensures) (tested .before .before .if1 .left) (more .one-more .ensures) (c .accepted .ensures)
     (c .before .request .ensures)
 
 pub insert-spec : {M : Type 1} → statement M

@@ -28,7 +28,7 @@ with-lost-requires c κs = search needs
 returns : tie.Need-returns
 returns c =
     rw (c .with-lost .ensures, c .before .either2 .ensures, c .before .before .either .ensures)
-    (let a = c .before .before .before .before .args in by-cases (a .onward) (a .self) (a .target) (a .place) (a .answer))
+    (let chosen = c .before .before .before in let a = chosen .before .args in by-cases (a .onward) (a .self) (a .target) (a .place) (a .answer))
 
 pub scans-spec : {M : Type 1} → statement M
 scans-spec = tie.close (tie.spec either-requires either-requires-2 with-lost-requires returns)
