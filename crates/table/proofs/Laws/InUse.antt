@@ -1,6 +1,6 @@
--- The laws of nodes in use: head and tail are, a node in use lies within the tables and stays in use, the next node is none and then is one. No
--- other file of this crate looks into `inUse`. Rests on Fitting.
-use mathlib.Core.Path.{_≡_, refl, sym, ap, _∙_}
+-- The laws of nodes in use: head and tail are, a node in use lies within the tables and stays in use, the next node is none and then is one, and
+-- longer tables have the same. No other file of this crate looks into `inUse`. Rests on Fitting.
+use mathlib.Core.Path.{_≡_, refl, ap, _∙_}
 use mathlib.Core.Logic.{_≢_}
 use mathlib.Core.Bool.{true, false}
 use Prim.Native.Nat.{ℕ, _+_, _≤_, _<_}
@@ -10,8 +10,8 @@ use borrow.Author.Tests.{ltb-true, lt-ltb, eqb-false}
 use Rattle.record.specs.Record.{headNode, tailNode}
 use Rattle.record.specs.declared.Node.{Node}
 use Rattle.record.specs.declared.Address.{Address}
-use Rattle.table.specs.Words.{Memory, inUse, Write, nothing, linkIs, deleterIs, written, nextNode, noneLeft, givenOut}
-use Rattle.table.proofs.Laws.Fitting.{Room}
+use Rattle.table.specs.Words.{Memory, inUse, Write, written, nextNode, noneLeft, givenOut}
+use Rattle.table.proofs.Laws.Fitting.{Beyond, longer, count-written, Room}
 
 used-below : (m : Memory) (n : Node) → inUse m n ≡ true → n .0 < m .count
 unfolding inUse
@@ -29,12 +29,6 @@ tail-in-use {m} o = lt-ltb 1 (m .count) (omega (arith, o .least))
 pub within : {m : Memory} → Room m → (n : Node) → inUse m n ≡ true → n .0 < m .nodes
 within {m} o n u = omega (arith, used-below m n u, o .most)
 
-count-written : (f : Write) (m : Memory) → written f m .count ≡ m .count
-unfolding written
-count-written nothing m = refl
-count-written (linkIs n w) m = refl
-count-written (deleterIs n w) m = refl
-
 -- a write takes no node out of use and brings none into it
 pub same-written : (f : Write) (m : Memory) (n : Node) → inUse (written f m) n ≡ inUse m n
 unfolding inUse
@@ -42,6 +36,11 @@ same-written f m n = ap (ltb (n .0)) (count-written f m)
 
 pub used-written : (f : Write) (m : Memory) (n : Node) → inUse m n ≡ true → inUse (written f m) n ≡ true
 used-written f m n u = same-written f m n ∙ u
+
+-- words past the ends of the tables bring none into use
+pub same-longer : {m : Memory} (b : Beyond) → Room m → (n : Node) → inUse (longer b m) n ≡ inUse m n
+unfolding inUse
+same-longer b o n = refl
 
 -- ---- a node is given out
 
