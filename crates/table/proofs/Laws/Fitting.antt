@@ -1,7 +1,7 @@
 -- Sizes within the limits and tables that fit, as inequalities and back; the lengths of tables, longer tables, and what a write or a giving out
 -- leaves of all this. Rests on Events.
 use mathlib.Core.Path.{_≡_, refl, sym, _∙_, subst}
-use mathlib.Core.Bool.{Bool, true, false, _&&_}
+use mathlib.Core.Bool.{Bool, true, false}
 use mathlib.Core.List.{List, [], _∷_, _++_}
 use Prim.Native.Nat.{ℕ, _+_, _≤_}
 use native.Mathlib.Omega.{arith}
@@ -9,10 +9,10 @@ use lib.Dec.{leb}
 use lib.ListN.{length-set, length-append}
 use borrow.Author.Tests.{leb-true, le-leb, eqb-false}
 use Rattle.record.specs.declared.Address.{Address}
-use Rattle.basics.proofs.Tests.{each-true}
 use Rattle.table.specs.Words.{Memory, addresses≔, links≔, deleters≔, Lengths, lengths, Write, nothing, linkIs, deleterIs, written, noneLeft}
 use Rattle.table.specs.Words.{givenOut}
 use Rattle.table.specs.Events.{sizesFit, longEnough, tablesFit}
+use Rattle.basics.proofs.Tests.{each-true}
 
 -- "Nodes: 2 to 4,096 .. Processes: 1 to 64"
 pub record Limits (nodes processes : ℕ) : Type 0 where

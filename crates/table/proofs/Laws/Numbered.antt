@@ -1,13 +1,13 @@
 -- The words of a memory, the nodes of a record, the chain and what is held, by number; and what a write or a giving out leaves of the words. Rests
 -- on Fitting, InUse and Reaching.
-use Rattle.table.proofs.Common.{_≡_, refl, sym, _∙_, ap, _≢_, true, false, ℕ, _+_, _/_, _%_, _≤_, _<_, arith, length, getD, getD-set-same}
-use Rattle.table.proofs.Common.{getD-set-other, eqb-true, eqb-false, ne-eqb, node, address, Node, Address, Record, Memory, addressAt, linkAt}
-use Rattle.table.proofs.Common.{deleterAt, linkWord, isMarked, inUse, aboveAll, rank, Write, nothing, linkIs, deleterIs, written, nextNode}
-use Rattle.table.proofs.Common.{noneLeft, givenOut, Struck, Held}
+use Rattle.table.proofs.Common.{_≡_, refl, ap, _≢_, true, false, ℕ, _+_, _%_, _≤_, arith, getD, getD-set-same, getD-set-other, eqb-true}
+use Rattle.table.proofs.Common.{eqb-false, ne-eqb, node, address, Node, Address, Record, Memory, linkWord, isMarked, inUse, aboveAll, Write}
+use Rattle.table.proofs.Common.{nothing, linkIs, deleterIs, nextNode, noneLeft, addressAt, linkAt, deleterAt, rank, written, givenOut, Struck}
+use Rattle.table.proofs.Common.{Held}
 use Rattle.table.specs.Words.{lengths}
 use Rattle.table.specs.Chain.{follows, OnChain, HeldBy}
 use Rattle.table.proofs.Laws.Fitting.{Room}
-use Rattle.table.proofs.Laws.InUse.{within, not-next, next-within}
+use Rattle.table.proofs.Laws.InUse.{within, next-within, not-next}
 use Rattle.table.proofs.Laws.Reaching.{Along, along, reach}
 
 -- ---- nodes by their numbers

@@ -6,7 +6,7 @@ use mathlib.Core.List.{List, [], _∷_, _++_}
 use Prim.Native.Nat.{ℕ, _≤_, _<_}
 use native.Mathlib.Omega.{arith}
 use lib.Dec.{ltb, eqb}
-use lib.ListN.{length, getD, length-set, length-append, List·getD-append}
+use lib.ListN.{length, length-set, length-append, List·getD-append}
 use lib.Seq.{set-append-left}
 use borrow.Author.Tests.{ltb-true, ltb-false}
 use Rattle.record.specs.Record.{freshRecord, headNode, tailNode, requested, noNode, Inserts}
@@ -26,8 +26,8 @@ use Rattle.table.specs.Places.{p11, p12, p13, p14, p15, p16, p17, p18, p
 use Rattle.table.specs.Steps.{link, deleter, wordMet, accessOf, inRange, usable, allUsable, Turn, turn, turnIn}
 use Rattle.table.specs.Events.{Left, leaving, refused, step, does, tablesFit, act, State, stateOf, recordIn, Leaves, leavesIn, stored, event}
 use Rattle.basics.proofs.Tests.{by-test, if, and-left, and-right}
-use Rattle.table.proofs.Laws.Fitting.{LongEnough, long-is, SameSizes, same-sizes, written-sizes, given-sizes, Beyond, longer, long-longer, Room}
-use Rattle.table.proofs.Laws.Fitting.{room-of}
+use Rattle.table.proofs.Laws.Fitting.{LongEnough, long-is, SameSizes, same-sizes, written-sizes, given-sizes, Beyond, longer, long-longer}
+use Rattle.table.proofs.Laws.Fitting.{Room, room-of}
 use Rattle.table.proofs.Laws.InUse.{head-in-use, within, same-longer, next-within}
 use Rattle.table.proofs.Laws.Meets.{does-alone, by-action, does-meets, act-judged, act-meets, event-meets, event-in-row, event-of-nobody}
 
