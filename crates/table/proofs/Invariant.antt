@@ -6,3 +6,9 @@ pub mod KnownStays
 pub mod InsertSteps
 pub mod DeleteSteps
 pub mod FindSteps
+pub mod EventCases
+pub mod GoingOn
+pub mod Played
+pub mod RunInvariant
+pub mod OpenOperations
+pub mod TablesStay

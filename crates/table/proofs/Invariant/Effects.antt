@@ -377,9 +377,9 @@ module _ {m : Memory} (i : Orderly m) where
 
 -- ---- a node is given out
 
-module _ {m : Memory} (i : Orderly m) (a : Address) (some : noneLeft m ≡ false) where
+module _ {m : Memory} (i : Orderly m) (a : Address) (spare : noneLeft m ≡ false) where
   pub given-rank : rankIn (givenOut a m) (nextIn m) ≡ a .0 + 1
-  given-rank = omega (arith, rank-inner (givenOut a m) (nextIn m) (next-inner (i .room)), given-address a m (i .room) some)
+  given-rank = omega (arith, rank-inner (givenOut a m) (nextIn m) (next-inner (i .room)), given-address a m (i .room) spare)
 
   old : (x : ℕ) → On m x → x ≢ nextIn m
   old x r = used-not-next m x (i .used x r)
@@ -393,7 +393,7 @@ module _ {m : Memory} (i : Orderly m) (a : Address) (some : noneLeft m ≡ false
   pub given-keeps : Orderly (givenOut a m) × Keeps m (givenOut a m)
   given-keeps = (
     record {
-      room = room-given a (i .room) some;
+      room = room-given a (i .room) spare;
       head = omega (arith, given-link-else a m 0 (old 0 (origin refl)), i .head);
       tail = given-link-else a m 1 (λ q. absurd (omega (arith, next-inner (i .room)))) ∙ i .tail;
       rise = λ x r h. omega (

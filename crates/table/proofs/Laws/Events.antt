@@ -55,7 +55,7 @@ refused-is m r n k e = ap (λ o. leaving m r o) e
 
 does-refused : (m : Memory) (p : Process) (r : Record) (x : Action) → Unchanged m r (does m p r x)
 does-refused m p r x = does-meets (Unchanged m r) m p r x
-    (refused-is m r 3) (λ a is some n e. absurd (accepted-not-refused e))
+    (refused-is m r 3) (λ a is spare n e. absurd (accepted-not-refused e))
     (refused-is m r 8) (λ is fits n e. absurd (turn-no-refusal m p r n e))
     (λ s alone n e. absurd (accepted-not-refused e))
 
@@ -110,7 +110,7 @@ alone-no-insert restarts = refl
 does-counts : (m : Memory) (p : Process) (r : Record) (x : Action) → Counts m x (does m p r x)
 unfolding countAfter
 does-counts m p r x = does-meets (Counts m x) m p r x
-    (refused-counts m r x 3) (λ a is some. rw is (count-given a m))
+    (refused-counts m r x 3) (λ a is spare. rw is (count-given a m))
     (refused-counts m r x 8) (λ is fits. rw is (count-written (turnIn m p r .writes) m))
     (λ s alone. rw (alone-no-insert alone))
 
@@ -132,7 +132,7 @@ Fixed m n d = addressAt (d .memory) n ≡ addressAt m n
 
 does-fixed : (m : Memory) (p : Process) (r : Record) (x : Action) (n : Node) → inUse m n ≡ true → Fixed m n (does m p r x)
 does-fixed m p r x n u = does-meets (Fixed m n) m p r x
-    refl (λ a is some. given-address-else a m (n .0) (used-not-next m (n .0) u))
+    refl (λ a is spare. given-address-else a m (n .0) (used-not-next m (n .0) u))
     refl (λ is fits. address-written (turnIn m p r .writes) m (n .0))
     (λ s alone. refl)
 

@@ -141,9 +141,9 @@ room-written {m} f o = let s = written-sizes f m in
     room-after s (omega (arith, count-written f m, o .least)) (omega (arith, count-written f m, s .nodes, o .most)) o
 
 pub room-given : {m : Memory} (a : Address) → Room m → noneLeft m ≡ false → Room (givenOut a m)
-room-given {m} a o some = let s = given-sizes a m in
+room-given {m} a o spare = let s = given-sizes a m in
     room-after s (omega (arith, count-given a m, o .least))
-    (omega (arith, count-given a m, s .nodes, o .most, eqb-false (m .count) (m .nodes) some)) o
+    (omega (arith, count-given a m, s .nodes, o .most, eqb-false (m .count) (m .nodes) spare)) o
 
 module _ (m : Memory) where
   abbrev fits : Bool

@@ -49,7 +49,7 @@ pub next-inner : {m : Memory} → Room m → 2 ≤ nextNode m .0
 next-inner o = o .least
 
 pub next-within : {m : Memory} → Room m → noneLeft m ≡ false → nextNode m .0 < m .nodes
-next-within {m} o some = omega (arith, o .most, eqb-false (m .count) (m .nodes) some)
+next-within {m} o spare = omega (arith, o .most, eqb-false (m .count) (m .nodes) spare)
 
 -- a node in use is not the next one
 pub not-next : (m : Memory) (n : Node) → inUse m n ≡ true → n ≢ nextNode m

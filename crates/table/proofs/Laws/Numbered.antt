@@ -179,18 +179,18 @@ pub used-not-next : (m : Memory) (n : ℕ) → Used m n → n ≢ nextIn m
 used-not-next m n u q = not-next m (node n) u (ap node q)
 
 module _ (a : Address) (m : Memory) where
-  module _ (o : Room m) (some : noneLeft m ≡ false) where
+  module _ (o : Room m) (spare : noneLeft m ≡ false) where
     pub given-link : linkIn (givenOut a m) (nextIn m) ≡ plainTo 1
     unfolding linkAt givenOut lengths
-    given-link = getD-set-same (m .links) (nextIn m) (plainTo 1) 0 (omega (arith, next-within o some, o .long .links))
+    given-link = getD-set-same (m .links) (nextIn m) (plainTo 1) 0 (omega (arith, next-within o spare, o .long .links))
 
     pub given-address : addressIn (givenOut a m) (nextIn m) ≡ a .0
     unfolding addressAt givenOut lengths
-    given-address = getD-set-same (m .addresses) (nextIn m) (a .0) 0 (omega (arith, next-within o some, o .long .addresses))
+    given-address = getD-set-same (m .addresses) (nextIn m) (a .0) 0 (omega (arith, next-within o spare, o .long .addresses))
 
     pub given-deleter : deleterIn (givenOut a m) (nextIn m) ≡ 0
     unfolding deleterAt givenOut lengths
-    given-deleter = getD-set-same (m .deleters) (nextIn m) 0 0 (omega (arith, next-within o some, o .long .deleters))
+    given-deleter = getD-set-same (m .deleters) (nextIn m) 0 0 (omega (arith, next-within o spare, o .long .deleters))
 
   -- the words of another node stay
   module _ (x : ℕ) (h : x ≢ nextIn m) where

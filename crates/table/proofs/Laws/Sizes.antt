@@ -245,9 +245,9 @@ module _ (m : Memory) (room : Room m) (b : Beyond) where
 
   given-longer : (a : Address) → noneLeft m ≡ false → givenOut a (longer b m) ≡ longer b (givenOut a m)
   unfolding givenOut lengths
-  given-longer a some =
+  given-longer a spare =
       let n = nextNode m .0 in
-      let there = next-within room some in
+      let there = next-within room spare in
       rw (
         set-append-left (m .addresses) (b .addresses) n (a .0) (omega (arith, there, room .long .addresses)),
         set-append-left (m .links) (b .links) n (linkWord tailNode false) (omega (arith, there, room .long .links)),
@@ -328,7 +328,7 @@ module _ (b : Beyond) (rs : List Record) (σ : State) (holds : Holds σ) (e : Ev
 
 does-sizes : (m : Memory) (p : Process) (r : Record) (x : Action) → SameSizes m (does m p r x .memory)
 does-sizes m p r x = does-meets (λ d. SameSizes m (d .memory)) m p r x
-    (same-sizes m) (λ a is some. given-sizes a m)
+    (same-sizes m) (λ a is spare. given-sizes a m)
     (same-sizes m) (λ is fits. written-sizes (turnIn m p r .writes) m)
     (λ s alone. same-sizes m)
 
