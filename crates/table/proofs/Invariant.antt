@@ -12,3 +12,5 @@ pub mod Played
 pub mod RunInvariant
 pub mod OpenOperations
 pub mod TablesStay
+pub mod HeldChanges
+pub mod HeldByPlace
