@@ -14,3 +14,6 @@ pub mod OpenOperations
 pub mod TablesStay
 pub mod HeldChanges
 pub mod HeldByPlace
+pub mod Deleters
+pub mod Winners
+pub mod RunFacts
