@@ -3,6 +3,7 @@ pub mod InUse
 pub mod Meets
 pub mod Reaching
 pub mod Numbered
+pub mod Ahead
 pub mod Accesses
 pub mod Ranges
 pub mod Events
