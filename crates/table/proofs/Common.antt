@@ -8,11 +8,11 @@ pub use Prim.Native.Nat.{ℕ, zero, suc, _+_, _/_, _%_, _≤_, _<_}
 pub use native.Mathlib.Omega.{arith}
 pub use native.Mathlib.Decide.{ℕ-discrete, decLe, decLt, le-ind}
 pub use native.Mathlib.Nat.{zero-add}
-pub use lib.Dec.{leb, ltb, eqb}
-pub use lib.ListN.{length, getD, set, length-set}
+pub use lib.Dec.{leb, eqb}
+pub use lib.ListN.{length, getD, set}
 pub use lib.Seq.{getD-set-same, getD-set-other}
-pub use borrow.Author.Tests.{ltb-true, leb-true, eqb-true, eqb-false, lt-ltb, le-ltb, le-leb, eq-eqb, ne-eqb}
-pub use Rattle.record.specs.Record.{node, process, address, headNode, tailNode, noNode, Idle, Running, Down, Inserts, Deletes, Finds, NoAnswer, False}
+pub use borrow.Author.Tests.{ltb-true, leb-true, eqb-true, eqb-false, lt-ltb, le-ltb, eq-eqb, ne-eqb}
+pub use Rattle.record.specs.Record.{node, process, address, Idle, Running, Down, Inserts, Deletes, Finds, NoAnswer, False}
 pub use Rattle.record.specs.Record.{True, Fail, recordOf}
 pub use Rattle.record.specs.Record.{freshRecord, _▸_, _with_, curr≔, succ≔, to, requested, wentDown, restarted}
 pub use Rattle.record.specs.Event.{kindOf, addressOf}
@@ -24,7 +24,7 @@ pub use Rattle.record.specs.declared.Kept.{Kept}
 pub use Rattle.record.specs.declared.Record.{Record}
 pub use Rattle.record.specs.declared.Event.{Event}
 pub use Rattle.record.specs.declared.Action.{Action}
-pub use Rattle.record.specs.declared.Action.the-variants.{Insert, Delete, Find, Step, Stop, Restart}
+pub use Rattle.record.specs.declared.Action.the-variants.{Insert, Delete, Find, Step}
 pub use Rattle.record.specs.declared.Outcome.{Outcome}
 pub use Rattle.record.specs.declared.Outcome.the-variants.{Refused, Accepted, Answered}
 pub use Rattle.table.specs.Words.{Memory, linkWord, targetOf, isMarked, inUse, aboveAll, below, equal, Write, nothing, linkIs, deleterIs}
@@ -35,7 +35,7 @@ unfoldable pub use Rattle.table.specs.Places.{placeOf, row, searchEnds}
 pub use Rattle.table.specs.Steps.{accessOf, recordAfter}
 unfoldable pub use Rattle.table.specs.Steps.{wordMet, turnIn, inRange}
 pub use Rattle.table.specs.Events.{Left, leaving, statusNeeded, State, stateOf, Leaves, leavesIn}
-unfoldable pub use Rattle.table.specs.Events.{step, does, sizesFit, tablesFit, recordIn, stored, event}
+unfoldable pub use Rattle.table.specs.Events.{does, tablesFit, recordIn, stored, event}
 pub use Rattle.table.specs.Chain.{Struck, Held}
 pub use Rattle.table.specs.History.{Answer, Operation, Set, History}
 pub use Rattle.table.specs.Demand3.{Quiet, answerAt, firstOf, history, AddressesFit, IsHeld}

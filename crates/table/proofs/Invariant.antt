@@ -11,7 +11,7 @@ pub mod GoingOn
 pub mod Played
 pub mod RunInvariant
 pub mod OpenOperations
-pub mod TablesStay
+pub mod TablesFit
 pub mod HeldChanges
 pub mod HeldByPlace
 pub mod Deleters

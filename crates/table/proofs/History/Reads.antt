@@ -117,7 +117,8 @@ module _ (ρ : Played) where
     abbrev R : Record
     R = recordThen ρ (a .time) (processAt ρ r)
 
-    telling : (k : Kind) → kindAsked (ρ .events r .action) ≡ k → (w : ℕ) → Since r (a .time) w → Tells k (a .value) (HeldIn (M w) (askedAt ρ r)) → Told
+    telling : (k : Kind) → kindAsked (ρ .events r .action) ≡ k → (w : ℕ) → Since r (a .time) w
+        → Tells k (a .value) (HeldIn (M w) (askedAt ρ r)) → Told
     telling k q w s t = record {
       moment = w;
       begun = s .after;

@@ -16,13 +16,13 @@ use Rattle.record.specs.declared.Address.{Address}
 use Rattle.record.specs.declared.Record.{Record}
 use Rattle.record.specs.declared.Event.{Event}
 use Rattle.record.specs.declared.Outcome.{Outcome}
-use Rattle.table.specs.Words.{Memory, lengths, addressAt, linkAt, deleterAt, isMarked, inUse, aboveAll, rank, freshMemory}
+use Rattle.table.specs.Words.{Memory, addressAt, linkAt, deleterAt, isMarked, inUse, aboveAll, rank, freshMemory}
 use Rattle.table.specs.Chain.{here, next, OnChain, Held, follows, Ahead, onto, tailAhead, notInUse, notAbove, ahead, walk, chain}
 use Rattle.table.specs.Events.{State, recordIn, sizesFit, tablesFit, fresh, event, runs, outcomes}
 use Rattle.table.specs.History.{Set}
 use Rattle.table.specs.Demand3.{Quiet, at, out, IsHeld}
 use Rattle.basics.proofs.Tests.{by-test}
-use Rattle.table.proofs.Laws.Fitting.{limits-of, Room, fit-of}
+use Rattle.table.proofs.Laws.Fitting.{limits-of, Room, room-fresh, fit-of}
 use Rattle.table.proofs.Laws.InUse.{head-in-use, tail-in-use}
 use Rattle.table.proofs.Laws.Reaching.{Along, origin, further, front}
 use Rattle.table.proofs.Laws.Numbered.{rankIn, followsIn, On, on-node, held-number, held-node, unmarked-plain, rank-inner, rank-head}
@@ -39,25 +39,13 @@ module _ (nodes processes : ℕ) (fit : sizesFit nodes processes ≡ true) where
   abbrev m₀ : Memory
   m₀ = freshMemory nodes processes
 
-  two : 2 ≤ nodes
-  two = limits-of nodes processes fit .two
-
   two-nodes : {n : Node} → OnChain m₀ n → (n ≡ headNode) ⊎ (n ≡ tailNode)
   unfolding freshMemory linkAt
   two-nodes (here q) = inl (sym q)
   two-nodes (next r ne q) = elim (two-nodes r) [ inl w ↦ inr (sym q ∙ ap (follows m₀) w) | inr w ↦ absurd (ne w) ]
 
   fresh-room : Room m₀
-  unfolding freshMemory lengths
-  fresh-room = record {
-    long = record {
-      addresses = omega (arith, length-replicate {A = ℕ} nodes 0);
-      links = omega (arith, two, length-replicate {A = ℕ} (nodes - 2) 0);
-      deleters = omega (arith, length-replicate {A = ℕ} nodes 0);
-    };
-    least = omega arith;
-    most = two;
-  }
+  fresh-room = room-fresh nodes processes (limits-of nodes processes fit .two)
 
   fresh-tables : tablesFit m₀ ≡ true
   unfolding freshMemory
@@ -102,7 +90,7 @@ holdsAmong m a (n ∷ l) = (not (isMarked (linkAt m n)) && eqb (addressAt m n) (
 
 module _ (m : Memory) (a : Address) where
   -- such a node
-  pub record Names (n : Node) : Type 0 where
+  record Names (n : Node) : Type 0 where
     pub plain : isMarked (linkAt m n) ≡ false
     pub named : addressAt m n ≡ a .0
 
@@ -159,10 +147,11 @@ module _ (σ : State) (Q : Quiet σ) where
   walk-meets zero n x o l r d t = elim (front r) [ inl q ↦ absurd (d (sym q)) | inr s ↦ absurd (omega (arith, rank-low n o (s .0))) ]
   walk-meets (suc k) n x o l r d t = elim (front r) [
     | inl q ↦ absurd (d (sym q))
-    | inr s ↦ rw (walk-onward m (node n) k (node (after n)) (onward n o (s .0) (λ q. t (tail-ends x (rw q at (s .1)))))) (elim (ℕ-discrete x (after n)) [
-      | yes q ↦ List·Memᴰ·head (ap node q)
-      | no q ↦ List·Memᴰ·tail (walk-meets k (after n) x (further o (s .0) refl) (omega (arith, rises-on n o (s .0))) (s .1) q t)
-    ])
+    | inr s ↦ rw (walk-onward m (node n) k (node (after n)) (onward n o (s .0) (λ q. t (tail-ends x (rw q at (s .1))))))
+        (elim (ℕ-discrete x (after n)) [
+          | yes q ↦ List·Memᴰ·head (ap node q)
+          | no q ↦ List·Memᴰ·tail (walk-meets k (after n) x (further o (s .0) refl) (omega (arith, rises-on n o (s .0))) (s .1) q t)
+        ])
   ]
 
   -- a node between head and tail
@@ -206,8 +195,11 @@ module _ (σ : State) (Q : Quiet σ) where
     (λ q. let z = holder m a (chain m) q in
         let x = walk-on aboveAll 0 (z .0) (origin refl) (λ q. absurd (omega arith)) (z .1) in
         (z .0, held-node (record { on = x .on; inner = x .inner; plain = unmarked-plain m (z .0 .0) (z .2 .plain); named = z .2 .named }))),
-    (λ h. let z = held-number (h .1) in found m a (h .0) (chain m)
-        (walk-meets aboveAll 0 (h .0 .0) (origin refl) (omega arith) (z .on) (λ q. absurd (omega (arith, z .inner))) (λ q. absurd (omega (arith, z .inner))))
+    (λ h. let n = h .0 .0 in
+        let z = held-number (h .1) in
+        let not-head : n ≢ 0 = λ q. absurd (omega (arith, z .inner)) in
+        let not-tail : n ≢ 1 = λ q. absurd (omega (arith, z .inner)) in
+        found m a (h .0) (chain m) (walk-meets aboveAll 0 n (origin refl) (omega arith) (z .on) not-head not-tail)
         (record { plain = h .1 .plain; named = z .named })),
   )
 

@@ -251,15 +251,17 @@ module _ {m : Memory} (i : Orderly m) where
     add-rises y (inl r) k (no q) (no e) = rw (follows-else i a (plainTo n) add-used-pred add-plain-pred y q) (i .rise y r k)
     add-rises y (inr r) k (no q) (no e) = absurd (e r)
 
+    add-keeps : {y : ℕ} → On m y → On m-added y
+    add-keeps r = put-keeps (followsIn m) (followsIn m-added) a n add-not-tail add-after add-onward add-else add-off r
+
     pub add-on : On m-added n
-    add-on = further (put-keeps (followsIn m) (followsIn m-added) a n add-not-tail add-after add-onward add-else add-off (x .on)) add-pred-not-tail add-after
+    add-on = further (add-keeps (x .on)) add-pred-not-tail add-after
 
     adds-orderly : StaysOrderly m m-added
     adds-orderly = (
       orderly-after i a (plainTo n) add-used-pred add-plain-pred (λ q. omega arith) add-pred-not-tail (λ y r. add-used y (add-new r))
           (λ y r. add-signed y (add-new r)) (λ y r k. add-rises y (add-new r) k (ℕ-discrete y a) (ℕ-discrete y n)),
-      keeps-after i a (plainTo n) add-used-pred add-plain-pred
-          (λ y r. inl (put-keeps (followsIn m) (followsIn m-added) a n add-not-tail add-after add-onward add-else add-off r)),
+      keeps-after i a (plainTo n) add-used-pred add-plain-pred (λ y r. inl (add-keeps r)),
     )
 
   -- a deleter is written

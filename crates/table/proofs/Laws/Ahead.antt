@@ -1,5 +1,4 @@
--- What the walk along the chain meets after a node: a node onto which it goes follows, is not tail, is in use and sorts above; and such a node it goes
--- onto. Rests on Chain.
+-- The walk along the chain goes onto the node that follows where that is not tail, is in use and sorts above, and onto no other. Rests on Chain.
 use mathlib.Core.Path.{_≡_, refl, ap}
 use mathlib.Core.Logic.{_≢_}
 use mathlib.Core.Bool.{Bool, true, false}
@@ -13,19 +12,21 @@ use Rattle.record.specs.declared.Node.{Node}
 use Rattle.table.specs.Words.{Memory, inUse, rank}
 use Rattle.table.specs.Chain.{follows, Ahead, onto, tailAhead, notInUse, notAbove, aheadOf, ahead, walk}
 
+-- the walk goes on from n, onto y
 pub record Onward (m : Memory) (n y : Node) : Type 0 where
   pub is : y ≡ follows m n
   pub not-tail : follows m n ≢ tailNode
   pub used : inUse m (follows m n) ≡ true
   pub above : rank (m .addresses) n < rank (m .addresses) (follows m n)
 
-record Tests (target y : Node) (tail used above : Bool) : Type 0 where
+-- what the tests of `aheadOf` told
+record Passed (target y : Node) (tail used above : Bool) : Type 0 where
   pub is : y ≡ target
   pub not-tail : tail ≡ false
   pub in-use : used ≡ true
   pub sorts : above ≡ true
 
-tests-of : (target y : Node) (tail used above : Bool) → aheadOf target tail used above ≡ onto y → Tests target y tail used above
+tests-of : (target y : Node) (tail used above : Bool) → aheadOf target tail used above ≡ onto y → Passed target y tail used above
 tests-of target y true used above q = let z : _≡_ {A = ℕ} 0 1 = cc in absurd (omega arith)
 tests-of target y false true true q = record { is = cc; not-tail = refl; in-use = refl; sorts = refl }
 tests-of target y false true false q = let z : _≡_ {A = ℕ} 0 1 = cc in absurd (omega arith)

@@ -3,14 +3,14 @@
 use mathlib.Core.Path.{_≡_, refl, sym, _∙_, subst}
 use mathlib.Core.Bool.{Bool, true, false}
 use mathlib.Core.List.{List, [], _∷_, _++_}
-use Prim.Native.Nat.{ℕ, _+_, _≤_}
+use Prim.Native.Nat.{ℕ, _+_, _-_, _≤_}
 use native.Mathlib.Omega.{arith}
 use lib.Dec.{leb}
-use lib.ListN.{length-set, length-append}
+use lib.ListN.{length-set, length-append, length-replicate}
 use borrow.Author.Tests.{leb-true, le-leb, eqb-false}
 use Rattle.record.specs.declared.Address.{Address}
 use Rattle.table.specs.Words.{Memory, addresses≔, links≔, deleters≔, Lengths, lengths, Write, nothing, linkIs, deleterIs, written, noneLeft}
-use Rattle.table.specs.Words.{givenOut}
+use Rattle.table.specs.Words.{givenOut, freshMemory}
 use Rattle.table.specs.Events.{sizesFit, longEnough, tablesFit}
 use Rattle.basics.proofs.Tests.{each-true}
 
@@ -144,6 +144,18 @@ pub room-given : {m : Memory} (a : Address) → Room m → noneLeft m ≡ false 
 room-given {m} a o spare = let s = given-sizes a m in
     room-after s (omega (arith, count-given a m, o .least))
     (omega (arith, count-given a m, s .nodes, o .most, eqb-false (m .count) (m .nodes) spare)) o
+
+pub room-fresh : (nodes processes : ℕ) → 2 ≤ nodes → Room (freshMemory nodes processes)
+unfolding freshMemory lengths
+room-fresh nodes processes two = record {
+  long = record {
+    addresses = omega (arith, length-replicate {A = ℕ} nodes 0);
+    links = omega (arith, length-replicate {A = ℕ} (nodes - 2) 0);
+    deleters = omega (arith, length-replicate {A = ℕ} nodes 0);
+  };
+  least = omega arith;
+  most = two;
+}
 
 module _ (m : Memory) where
   abbrev fits : Bool

@@ -3,7 +3,7 @@
 use mathlib.Core.Path.{_≡_, refl, ap, _∙_}
 use mathlib.Core.Logic.{_≢_}
 use mathlib.Core.Bool.{true, false}
-use Prim.Native.Nat.{_+_, _≤_, _<_}
+use Prim.Native.Nat.{_≤_, _<_}
 use native.Mathlib.Omega.{arith}
 use lib.Dec.{ltb}
 use borrow.Author.Tests.{ltb-true, lt-ltb, eqb-false}
@@ -11,7 +11,7 @@ use Rattle.record.specs.Record.{headNode, tailNode}
 use Rattle.record.specs.declared.Node.{Node}
 use Rattle.record.specs.declared.Address.{Address}
 use Rattle.table.specs.Words.{Memory, inUse, Write, written, nextNode, noneLeft, givenOut}
-use Rattle.table.proofs.Laws.Fitting.{Beyond, longer, count-written, Room}
+use Rattle.table.proofs.Laws.Fitting.{Beyond, longer, count-written, count-given, Room}
 
 used-below : (m : Memory) (n : Node) → inUse m n ≡ true → n .0 < m .count
 unfolding inUse
@@ -57,9 +57,9 @@ not-next m n u q = absurd (omega (arith, used-below m n u, ap (λ (k : Node). k 
 
 module _ (a : Address) (m : Memory) where
   pub given-used : inUse (givenOut a m) (nextNode m) ≡ true
-  unfolding givenOut inUse
-  given-used = lt-ltb (m .count) (m .count + 1) (omega arith)
+  unfolding inUse
+  given-used = lt-ltb (m .count) (givenOut a m .count) (omega (arith, count-given a m))
 
   pub given-keeps-used : (n : Node) → inUse m n ≡ true → inUse (givenOut a m) n ≡ true
-  unfolding givenOut inUse
-  given-keeps-used n u = lt-ltb (n .0) (m .count + 1) (omega (arith, used-below m n u))
+  unfolding inUse
+  given-keeps-used n u = lt-ltb (n .0) (givenOut a m .count) (omega (arith, used-below m n u, count-given a m))

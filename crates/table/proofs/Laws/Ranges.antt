@@ -1,7 +1,7 @@
 -- A place's number, and what refusal 8 leaves of a record's numbers. Rests on Tests.
-use Rattle.table.proofs.Common.{_≡_, refl, sym, _∙_, ap, _≢_, Bool, true, not, _&&_, _||_, false≢true, List, [], _∷_, ℕ, zero, suc, _+_, _≤_, _<_}
-use Rattle.table.proofs.Common.{arith, zero-add, leb, eqb, length, getD, leb-true, eqb-true, Finds, NoAnswer, Fail, Record, Place, p0, p1, p2}
-use Rattle.table.proofs.Common.{p3, p4, p5, p6, p7, p8, p9, p10, p11, p12, p13, p14, p15, p16, p17, p18, p19, off, placeOf, inRange}
+use Rattle.table.proofs.Common.{_≡_, refl, sym, _∙_, ap, _≢_, Bool, true, not, _&&_, _||_, false≢true, List, [], _∷_, ℕ, zero, suc, _+_, _≤_}
+use Rattle.table.proofs.Common.{_<_, arith, zero-add, leb, eqb, length, getD, leb-true, eqb-true, Finds, NoAnswer, Fail, Record, Place, p0, p1}
+use Rattle.table.proofs.Common.{p2, p3, p4, p5, p6, p7, p8, p9, p10, p11, p12, p13, p14, p15, p16, p17, p18, p19, off, placeOf, inRange}
 use Rattle.basics.proofs.Tests.{and-left, and-right, each-true}
 use Rattle.table.proofs.Laws.Accesses.{places}
 
