@@ -1,3 +1,10 @@
 pub mod Fitting
 pub mod InUse
 pub mod Meets
+pub mod Reaching
+pub mod Numbered
+pub mod Ahead
+pub mod Accesses
+pub mod Ranges
+pub mod Events
+pub mod Sizes

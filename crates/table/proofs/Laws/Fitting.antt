@@ -1,15 +1,18 @@
--- Sizes within the limits and tables that fit, as inequalities and back; the lengths of tables. Rests on Events.
-use mathlib.Core.Path.{_≡_, refl, ap, subst}
-use mathlib.Core.Bool.{Bool, true, _&&_}
-use mathlib.Core.List.{[], _∷_}
-use Prim.Native.Nat.{ℕ, _≤_}
+-- Sizes within the limits and tables that fit, as inequalities and back; the lengths of tables, longer tables, and what a write or a giving out
+-- leaves of all this. Rests on Events.
+use mathlib.Core.Path.{_≡_, refl, sym, _∙_, subst}
+use mathlib.Core.Bool.{Bool, true, false}
+use mathlib.Core.List.{List, [], _∷_, _++_}
+use Prim.Native.Nat.{ℕ, _+_, _-_, _≤_}
+use native.Mathlib.Omega.{arith}
 use lib.Dec.{leb}
-use lib.ListN.{length-set}
-use borrow.Author.Tests.{leb-true, le-leb}
+use lib.ListN.{length-set, length-append, length-replicate}
+use borrow.Author.Tests.{leb-true, le-leb, eqb-false}
 use Rattle.record.specs.declared.Address.{Address}
-use Rattle.basics.proofs.Tests.{each-true}
-use Rattle.table.specs.Words.{Memory, Lengths, lengths, Write, nothing, linkIs, deleterIs, written, givenOut}
+use Rattle.table.specs.Words.{Memory, addresses≔, links≔, deleters≔, Lengths, lengths, Write, nothing, linkIs, deleterIs, written, noneLeft}
+use Rattle.table.specs.Words.{givenOut, freshMemory}
 use Rattle.table.specs.Events.{sizesFit, longEnough, tablesFit}
+use Rattle.basics.proofs.Tests.{each-true}
 
 -- "Nodes: 2 to 4,096 .. Processes: 1 to 64"
 pub record Limits (nodes processes : ℕ) : Type 0 where
@@ -64,12 +67,95 @@ pub given-as-long : (a : Address) (m : Memory) → AsLong m (givenOut a m)
 unfolding givenOut lengths
 given-as-long a m = rw (length-set (m .addresses) _ _, length-set (m .links) _ _, length-set (m .deleters) _ _)
 
+-- nor do the stated sizes change
+pub record SameSizes (m m′ : Memory) : Type 0 where
+  pub nodes : m′ .nodes ≡ m .nodes
+  pub processes : m′ .processes ≡ m .processes
+  pub tables : AsLong m m′
+
+pub same-sizes : (m : Memory) → SameSizes m m
+same-sizes m = record { nodes = refl; processes = refl; tables = refl }
+
+pub sizes-onward : {m m′ m″ : Memory} → SameSizes m m′ → SameSizes m′ m″ → SameSizes m m″
+sizes-onward s s′ = record { nodes = s′ .nodes ∙ s .nodes; processes = s′ .processes ∙ s .processes; tables = s′ .tables ∙ s .tables }
+
+pub written-sizes : (f : Write) (m : Memory) → SameSizes m (written f m)
+unfolding written
+written-sizes nothing m = same-sizes m
+written-sizes (linkIs n w) m = record { nodes = refl; processes = refl; tables = written-as-long (linkIs n w) m }
+written-sizes (deleterIs n w) m = record { nodes = refl; processes = refl; tables = written-as-long (deleterIs n w) m }
+
+pub given-sizes : (a : Address) (m : Memory) → SameSizes m (givenOut a m)
+unfolding givenOut
+given-sizes a m = record { nodes = refl; processes = refl; tables = given-as-long a m }
+
+-- ---- longer tables
+
+-- words past the ends of the tables
+pub record Beyond : Type 0 where
+  pub addresses : List ℕ
+  pub links : List ℕ
+  pub deleters : List ℕ
+
+-- the same memory with these words after its tables
+abbrev pub longer : Beyond → Memory → Memory
+longer b m =
+    addresses≔ (m .addresses ++ b .addresses) (links≔ (m .links ++ b .links) (deleters≔ (m .deleters ++ b .deleters) m))
+
+pub long-longer : (b : Beyond) (m : Memory) (nodes : ℕ) → LongEnough nodes (lengths m) → LongEnough nodes (lengths (longer b m))
+unfolding lengths
+long-longer b m nodes o = record {
+  addresses = omega (arith, length-append (m .addresses) (b .addresses), o .addresses);
+  links = omega (arith, length-append (m .links) (b .links), o .links);
+  deleters = omega (arith, length-append (m .deleters) (b .deleters), o .deleters);
+}
+
+-- ---- the count
+
+pub count-written : (f : Write) (m : Memory) → written f m .count ≡ m .count
+unfolding written
+count-written nothing m = refl
+count-written (linkIs n w) m = refl
+count-written (deleterIs n w) m = refl
+
+pub count-given : (a : Address) (m : Memory) → givenOut a m .count ≡ m .count + 1
+unfolding givenOut
+count-given a m = refl
+
 -- ---- room: the tables reach over the nodes, and the count lies within
 
 pub record Room (m : Memory) : Type 0 where
   pub long : LongEnough (m .nodes) (lengths m)
   pub least : 2 ≤ m .count
   pub most : m .count ≤ m .nodes
+
+room-after : {m m′ : Memory} → SameSizes m m′ → 2 ≤ m′ .count → m′ .count ≤ m′ .nodes → Room m → Room m′
+room-after {m} {m′} s least most o = record {
+  long = subst (LongEnough (m′ .nodes)) (sym (s .tables)) (rw (s .nodes) (o .long));
+  least = least;
+  most = most;
+}
+
+pub room-written : {m : Memory} (f : Write) → Room m → Room (written f m)
+room-written {m} f o = let s = written-sizes f m in
+    room-after s (omega (arith, count-written f m, o .least)) (omega (arith, count-written f m, s .nodes, o .most)) o
+
+pub room-given : {m : Memory} (a : Address) → Room m → noneLeft m ≡ false → Room (givenOut a m)
+room-given {m} a o spare = let s = given-sizes a m in
+    room-after s (omega (arith, count-given a m, o .least))
+    (omega (arith, count-given a m, s .nodes, o .most, eqb-false (m .count) (m .nodes) spare)) o
+
+pub room-fresh : (nodes processes : ℕ) → 2 ≤ nodes → Room (freshMemory nodes processes)
+unfolding freshMemory lengths
+room-fresh nodes processes two = record {
+  long = record {
+    addresses = omega (arith, length-replicate {A = ℕ} nodes 0);
+    links = omega (arith, length-replicate {A = ℕ} (nodes - 2) 0);
+    deleters = omega (arith, length-replicate {A = ℕ} nodes 0);
+  };
+  least = omega arith;
+  most = two;
+}
 
 module _ (m : Memory) where
   abbrev fits : Bool

@@ -1,17 +1,17 @@
--- The laws of nodes in use: head and tail are, a node in use lies within the tables and stays in use, the next node is none and then is one. No
--- other file of this crate looks into `inUse`. Rests on Fitting.
-use mathlib.Core.Path.{_≡_, refl, sym, ap, _∙_}
+-- The laws of nodes in use: head and tail are, a node in use lies within the tables and stays in use, the next node is none and then is one, and
+-- longer tables have the same. No other file of this crate looks into `inUse`. Rests on Fitting.
+use mathlib.Core.Path.{_≡_, refl, ap, _∙_}
 use mathlib.Core.Logic.{_≢_}
 use mathlib.Core.Bool.{true, false}
-use Prim.Native.Nat.{ℕ, _+_, _≤_, _<_}
+use Prim.Native.Nat.{_≤_, _<_}
 use native.Mathlib.Omega.{arith}
 use lib.Dec.{ltb}
 use borrow.Author.Tests.{ltb-true, lt-ltb, eqb-false}
 use Rattle.record.specs.Record.{headNode, tailNode}
 use Rattle.record.specs.declared.Node.{Node}
 use Rattle.record.specs.declared.Address.{Address}
-use Rattle.table.specs.Words.{Memory, inUse, Write, nothing, linkIs, deleterIs, written, nextNode, noneLeft, givenOut}
-use Rattle.table.proofs.Laws.Fitting.{Room}
+use Rattle.table.specs.Words.{Memory, inUse, Write, written, nextNode, noneLeft, givenOut}
+use Rattle.table.proofs.Laws.Fitting.{Beyond, longer, count-written, count-given, Room}
 
 used-below : (m : Memory) (n : Node) → inUse m n ≡ true → n .0 < m .count
 unfolding inUse
@@ -32,12 +32,6 @@ among-stated m most n u = omega (arith, used-below m n u, most)
 pub within : {m : Memory} → Room m → (n : Node) → inUse m n ≡ true → n .0 < m .nodes
 within {m} o n u = among-stated m (o .most) n u
 
-count-written : (f : Write) (m : Memory) → written f m .count ≡ m .count
-unfolding written
-count-written nothing m = refl
-count-written (linkIs n w) m = refl
-count-written (deleterIs n w) m = refl
-
 -- a write takes no node out of use and brings none into it
 pub same-written : (f : Write) (m : Memory) (n : Node) → inUse (written f m) n ≡ inUse m n
 unfolding inUse
@@ -46,6 +40,11 @@ same-written f m n = ap (ltb (n .0)) (count-written f m)
 pub used-written : (f : Write) (m : Memory) (n : Node) → inUse m n ≡ true → inUse (written f m) n ≡ true
 used-written f m n u = same-written f m n ∙ u
 
+-- words past the ends of the tables bring none into use
+pub same-longer : {m : Memory} (b : Beyond) → Room m → (n : Node) → inUse (longer b m) n ≡ inUse m n
+unfolding inUse
+same-longer b o n = refl
+
 -- ---- a node is given out
 
 -- the next node lies between head and tail and the end of the stated nodes
@@ -53,7 +52,7 @@ pub next-inner : {m : Memory} → Room m → 2 ≤ nextNode m .0
 next-inner o = o .least
 
 pub next-within : {m : Memory} → Room m → noneLeft m ≡ false → nextNode m .0 < m .nodes
-next-within {m} o some = omega (arith, o .most, eqb-false (m .count) (m .nodes) some)
+next-within {m} o spare = omega (arith, o .most, eqb-false (m .count) (m .nodes) spare)
 
 -- a node in use is not the next one
 pub not-next : (m : Memory) (n : Node) → inUse m n ≡ true → n ≢ nextNode m
@@ -61,9 +60,9 @@ not-next m n u q = absurd (omega (arith, used-below m n u, ap (λ (k : Node). k 
 
 module _ (a : Address) (m : Memory) where
   pub given-used : inUse (givenOut a m) (nextNode m) ≡ true
-  unfolding givenOut inUse
-  given-used = lt-ltb (m .count) (m .count + 1) (omega arith)
+  unfolding inUse
+  given-used = lt-ltb (m .count) (givenOut a m .count) (omega (arith, count-given a m))
 
   pub given-keeps-used : (n : Node) → inUse m n ≡ true → inUse (givenOut a m) n ≡ true
-  unfolding givenOut inUse
-  given-keeps-used n u = lt-ltb (n .0) (m .count + 1) (omega (arith, used-below m n u))
+  unfolding inUse
+  given-keeps-used n u = lt-ltb (n .0) (givenOut a m .count) (omega (arith, used-below m n u, count-given a m))

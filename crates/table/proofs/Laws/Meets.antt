@@ -6,13 +6,13 @@ use lib.Dec.{ltb, eqb}
 use lib.ListN.{length}
 use lib.Seq.{set-getD}
 use borrow.Author.Tests.{le-leb, lt-leb, le-ltb}
-use Rattle.record.specs.Record.{freshRecord, requested, Inserts}
+use Rattle.record.specs.Record.{freshRecord, requested, wentDown, restarted, noNode, Inserts, Deletes, Finds}
 use Rattle.record.specs.Event.{refusalIn}
 use Rattle.record.specs.declared.Process.{Process}
 use Rattle.record.specs.declared.Address.{Address}
 use Rattle.record.specs.declared.Record.{Record}
 use Rattle.record.specs.declared.Action.{Action}
-use Rattle.record.specs.declared.Action.the-variants.{Insert}
+use Rattle.record.specs.declared.Action.the-variants.{Insert, Delete, Find, Step, Stop, Restart}
 use Rattle.record.specs.declared.Event.{Event}
 use Rattle.record.specs.declared.Outcome.the-variants.{Refused, Accepted}
 use Rattle.table.specs.Words.{Memory, givenOut, nextNode, noneLeft, written}
@@ -20,6 +20,29 @@ use Rattle.table.specs.Steps.{turnIn}
 use Rattle.table.specs.Events.{Left, leaving, refused, step, does, statusNeeded, tablesFit, act, State, recordIn, Leaves, leavesIn}
 use Rattle.table.specs.Events.{stored, event}
 use Rattle.basics.proofs.Tests.{if, if-le, by-test}
+
+-- an action on the record alone: the memory stays, and it is accepted
+pub data Alone (r : Record) : Action → Record → Type 0 where
+  deletes : {a : Address} → Alone r (Delete a) (requested 0 Deletes a noNode r)
+  finds : {a : Address} → Alone r (Find a) (requested 11 Finds a noNode r)
+  stops : Alone r Stop (wentDown r)
+  restarts : Alone r Restart (restarted r)
+
+pub does-alone : {r s : Record} {x : Action} → Alone r x s → (m : Memory) (p : Process) → does m p r x ≡ leaving m s Accepted
+unfolding does
+does-alone deletes m p = refl
+does-alone finds m p = refl
+does-alone stops m p = refl
+does-alone restarts m p = refl
+
+-- every action is an insert, a step, or on the record alone
+pub by-action : {X : Type 0} (r : Record) (x : Action) → ((a : Address) → x ≡ Insert a → X) → (x ≡ Step → X) → ((s : Record) → Alone r x s → X) → X
+by-action r (Insert a) insert step alone = insert a refl
+by-action r (Delete a) insert step alone = alone _ deletes
+by-action r (Find a) insert step alone = alone _ finds
+by-action r Step insert step alone = step refl
+by-action r Stop insert step alone = alone _ stops
+by-action r Restart insert step alone = alone _ restarts
 
 module _ (P : Left → Type 0) (m : Memory) (p : Process) (r : Record) where
   pub step-meets : (turnIn m p r .fits ≡ true → P (leaving (written (turnIn m p r .writes) m) (turnIn m p r .after) (turnIn m p r .says)))
@@ -31,6 +54,17 @@ module _ (P : Left → Type 0) (m : Memory) (p : Process) (r : Record) where
       → (noneLeft m ≡ false → P (leaving (givenOut a m) (requested 0 Inserts a (nextNode m) r) Accepted)) → P (does m p r (Insert a))
   unfolding does
   insert-meets a refusal done = if P (noneLeft m) refusal done
+
+  pub does-meets : (x : Action) → P (refused m r 3)
+      → ((a : Address) → x ≡ Insert a → noneLeft m ≡ false → P (leaving (givenOut a m) (requested 0 Inserts a (nextNode m) r) Accepted))
+      → P (refused m r 8)
+      → (x ≡ Step → turnIn m p r .fits ≡ true → P (leaving (written (turnIn m p r .writes) m) (turnIn m p r .after) (turnIn m p r .says)))
+      → ((s : Record) → Alone r x s → P (leaving m s Accepted)) → P (does m p r x)
+  unfolding does
+  does-meets x none insert unfit step alone = by-action r x
+      (λ a is. rw is (insert-meets a (λ e. none) (insert a is)))
+      (λ is. rw is (step-meets (step is) unfit))
+      (λ s z. rw (does-alone z m p) (alone s z))
 
   -- 7, 1, 2 in this order, or what is done; each with what was found before it
   judged-meets : (fit there ready : Bool) (d : Left) → (fit ≡ false → P (refused m r 7)) → (fit ≡ true → there ≡ false → P (refused m r 1))

@@ -1,0 +1,5 @@
+pub mod Needs
+pub mod Replay
+pub mod Ordered
+pub mod Teeth
+pub mod Supplied
