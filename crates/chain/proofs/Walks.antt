@@ -2,7 +2,7 @@
 use mathlib.Core.Path.{_≡_, refl, sym, _∙_, ap, subst}
 use mathlib.Core.Logic.{_≢_}
 use mathlib.Core.Bool.{Bool, true, false}
-use mathlib.Core.List.{List, [], _∷_}
+use mathlib.Core.List.{List, [], _∷_, map}
 use Prim.Native.Nat.{ℕ, zero, suc, _≤_, _<_, _+_}
 use native.Mathlib.Omega.{arith}
 use lib.Dec.{ltb, eqb}
@@ -67,7 +67,7 @@ Stops x = OneOf (1 ∷ 2 ∷ 3 ∷ []) (tagOf the-type x)
 
 module _ (P : table.Ahead → Type 0) where
   -- whatever lies ahead: a next node, or one of the three that stop the walk
-  goes-or-stops : (x : table.Ahead) → ((n : Node) → x ≡ onto n → P (onto n)) → P tailAhead → P notInUse → P notAbove → P x
+  pub goes-or-stops : (x : table.Ahead) → ((n : Node) → x ≡ onto n → P (onto n)) → P tailAhead → P notInUse → P notAbove → P x
   goes-or-stops (onto n) goes t u a = goes n refl
   goes-or-stops tailAhead goes t u a = t
   goes-or-stops notInUse goes t u a = u
@@ -102,7 +102,7 @@ all-tell target next false true false e = absurd (let z : _≡_ {A = ℕ} 0 1 = 
 all-tell target next false true true e = record { not-tail = refl; is-used = refl; is-above = refl; is-next = cc }
 
 -- what a walk with k steps left has after a node, from what lies ahead
-abbrev after : ℕ → Memory → table.Ahead → List Node
+abbrev pub after : ℕ → Memory → table.Ahead → List Node
 after k m x = elim x [ onto n ↦ n ∷ walk k m n | tailAhead ↦ [] | notInUse ↦ [] | notAbove ↦ [] ]
 
 module _ (m : Memory) (from : Node) where
@@ -145,6 +145,15 @@ module _ (m : Memory) (from : Node) where
     pub walked-ends : Stops x → Ends ≡ walkedFrom m from
     unfolding walkedFrom
     walked-ends stops = stops-meet (λ y. Ends ≡ walkedOn m y) (ahead m from) (told-stops stops) refl refl refl
+
+-- the addresses along a walk, one `walk_on` after another
+pub walk-by-steps : (m : Memory) (from : Node) (k : ℕ) → let addresses = map (λ n. address (addressAt m n)) in
+    addresses (walk (suc k) m from) ≡ elim (walkedFrom m from) [ Onto n a ↦ a ∷ addresses (walk k m n) | Ends ↦ [] ]
+unfolding walk walkedFrom
+walk-by-steps m from k =
+    let addresses = map (λ n. address (addressAt m n)) in
+    goes-or-stops (λ x. addresses (after k m x) ≡ elim (walkedOn m x) [ Onto n a ↦ a ∷ addresses (walk k m n) | Ends ↦ [] ]) (ahead m from)
+    (λ n on. refl) refl refl refl
 
 -- ---- the walk ends by itself: every node sorts above the one before it, and no more than aboveAll of them can
 
