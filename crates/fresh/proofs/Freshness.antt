@@ -12,8 +12,8 @@ use Rattle.basics.specs.Over.{over}
 use Rattle.record.specs.Record.{freshRecord, tailNode}
 use Rattle.record.specs.declared.Record.{Record}
 use Rattle.table.specs.Words.{Memory, lengths, linkWord, freshMemory}
-use Rattle.table.specs.Events.{State, stateOf, fresh, tablesFit}
-use Rattle.table.proofs.Laws.Fitting.{Limits, limits, Room, room-of}
+use Rattle.table.specs.Events.{stateOf, fresh, tablesFit}
+use Rattle.table.proofs.Laws.Fitting.{limits, Room, room-of}
 use Rattle.words.specs.LentMemory.{lentMemory, sizesOf}
 use Rattle.words.specs.declared.Sizes.{Sizes}
 use Rattle.fresh.specs.declared.Made.{Made}

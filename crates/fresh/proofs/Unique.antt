@@ -4,7 +4,7 @@ use mathlib.Core.Path.{_≡_, sym, _∙_}
 use mathlib.Core.List.{List}
 use Rattle.record.specs.declared.Record.{Record}
 use Rattle.table.specs.Words.{Memory}
-use Rattle.table.specs.Events.{State, stateOf}
+use Rattle.table.specs.Events.{stateOf}
 use Rattle.fresh.specs.declared.Made.{Made}
 use Rattle.fresh.specs.Fresh.{tablesLeft, freshTables, listLeft, freshList}
 

@@ -1,6 +1,6 @@
 -- The call of `hand_back`, as one rule: whoever has the lent tables calls it with a record, and has what it promises. Every walk that calls
 -- `hand_back` cites it, whatever else its context holds. All that it knows of `hand_back` is that it meets its contract. Rests on the walks' kit.
-use Rattle.walks.proofs.Kit.{_≡_, ℕ, [], _∷_, List, URA, Opd, Place, Body, seq, call, SProp, ent, id⊢, Memory, Routine, Heap, Calls, Loops, Env}
+use Rattle.walks.proofs.Kit.{_≡_, [], _∷_, List, URA, Opd, Place, Body, seq, call, SProp, ent, id⊢, Memory, Routine, Heap, Calls, Loops, Env}
 use Rattle.walks.proofs.Kit.{Atoms, Fun, Given, Item, Sq, Post, Go, runs, lands, Opds, raw, ⋆, _$_, _∵_, !, qed, move, drop, FmC, Is, nothing}
 use Rattle.walks.proofs.Kit.{Contract, Triple}
 use Rattle.walks.proofs.Values.{ByValue, IsA, of-struct, of-enum, with-value}

@@ -7,7 +7,7 @@ use lib.ListN.{length, set}
 use Rattle.record.specs.declared.Record.{Record}
 use Rattle.record.specs.declared.Event.{Event}
 use Rattle.table.specs.Words.{Memory}
-use Rattle.table.specs.Events.{Left, act, State, stateOf, recordIn, Leaves, leavesIn, stored, event}
+use Rattle.table.specs.Events.{Left, act, State, stateOf, recordIn, leavesIn, stored, event}
 use Rattle.table.proofs.Laws.Meets.{event-in-row, event-left-by-nobody}
 use Rattle.words.specs.LentMemory.{sized}
 use Rattle.list.specs.Acting.{left}

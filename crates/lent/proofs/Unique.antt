@@ -8,7 +8,7 @@ use Rattle.record.specs.declared.Action.{Action}
 use Rattle.record.specs.declared.Event.{Event}
 use Rattle.record.specs.declared.Outcome.{Outcome}
 use Rattle.table.specs.Words.{Memory}
-use Rattle.table.specs.Events.{act, State, stateOf, leavesIn, event}
+use Rattle.table.specs.Events.{act, stateOf, leavesIn, event}
 use Rattle.words.specs.LentMemory.{sized, sizesOf}
 use Rattle.words.specs.declared.Sizes.{Sizes}
 use Rattle.list.specs.Acting.{left}

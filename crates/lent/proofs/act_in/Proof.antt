@@ -1,17 +1,15 @@
 -- `act_in` meets its contract: a walk of its MIR by hand, with two tests. The tables are passed on for good to `hand_back` (`Acts`); the row is
 -- opened only where the event's process is below the process count: its record is copied out, and the record given is stored. Assumes nothing.
-use Rattle.walks.proofs.Kit.{Lfts, Shares, _≡_, refl, sym, subst, ℕ, _<_, _^_, lt-of-lt-of-le, leb→le, nleb→lt, ltb→lt, nltb→le, lit<, [], _∷_, List}
-use Rattle.walks.proofs.Kit.{length, set, getD, length-set, URA, fullShare, named, w64, Opd, Place, Body, seq, call, Val, vint, vptr, SProp, ent, id⊢}
-use Rattle.walks.proofs.Kit.{flft, Memory, Routine, Heap, Calls, Loops, Env, WpFn, Tables, Atoms, Fun, factI, givenOf, scaled-fits, Given, Item, Sq}
-use Rattle.walks.proofs.Kit.{Post, Go, runs, lands, Opds, ‵, raw, ⋆, _$_, _∵_, !, qed, by, move, keep, drop, split, join, rewrite, fsplit3, fjoin}
-use Rattle.walks.proofs.Kit.{suffices, frame, done, atRet, look, look-raw, init, store, store-raw, stop, hop, from, load, lit, of-opd, un, bin, agg}
-use Rattle.walks.proofs.Kit.{and-then, no-more, first, branches, skips, exec, assigns, land, returns, returns-within, params1, pass1, pass0, FmC}
-use Rattle.walks.proofs.Kit.{fmOf, RefT, sliceVal, MutSlice, Room, place-is, nothing, Contract, Triple, Args, Meets, says, emp}
+use Rattle.walks.proofs.Kit.{Lfts, Shares, _≡_, refl, sym, ℕ, _<_, _^_, lt-of-lt-of-le, leb→le, nleb→lt, ltb→lt, nltb→le, lit<, [], _∷_, List, length}
+use Rattle.walks.proofs.Kit.{set, getD, length-set, URA, fullShare, named, Val, vptr, SProp, ent, flft, Memory, Routine, Heap, WpFn, Tables, Atoms}
+use Rattle.walks.proofs.Kit.{Fun, factI, givenOf, scaled-fits, Given, Item, ‵, ⋆, _$_, _∵_, !, qed, by, move, keep, drop, split, rewrite, fsplit3}
+use Rattle.walks.proofs.Kit.{fjoin, suffices, frame, atRet, look, look-raw, init, store, store-raw, stop, hop, from, load, lit, of-opd, un, bin, agg}
+use Rattle.walks.proofs.Kit.{and-then, no-more, first, branches, skips, exec, assigns, land, returns, returns-within, params1, pass1, pass0, fmOf}
+use Rattle.walks.proofs.Kit.{RefT, sliceVal, MutSlice, Room, place-is, nothing, Triple, Args, Meets, says, emp}
 use Rattle.walks.proofs.Record.{record-values, R, records, size}
 use Rattle.walks.proofs.Locals.{spot, leaving, environment, bare, holds, slot, local-at, after, releases}
 use Rattle.walks.proofs.Operands.{at-local, copied, field-of, lends-on}
 use Rattle.walks.proofs.Values.{typed-as, ByValue, IsA, of-struct, of-enum, with-value, answers}
-use Rattle.walks.proofs.Calls.{Met, calls-met}
 use Rattle.walks.proofs.Parameters.{given, lent-slice, Parameters, Told, Ends, ends, Walk, meets-by-walk, tables-over, cites, enters}
 use Rattle.walks.proofs.Rows.{takes, puts, row-opened, row-closed}
 use Rattle.walks.proofs.Fresh.{Makes-fresh, makes-fresh}
@@ -21,7 +19,6 @@ use denote.Struct.Laws as struct
 use denote.Enum.Laws as enum
 use Rattle.record.specs.Record.{freshRecord}
 use Rattle.record.specs.declared.Process.{Process}
-use Rattle.record.specs.declared.Action.{Action}
 use Rattle.record.specs.declared.Record.{Record}
 use Rattle.record.specs.declared.Event.{Event}
 use Rattle.record.specs.declared.Outcome.the-variants.{Refused}
