@@ -1,29 +1,34 @@
--- Rows 1, 11 and 13, which choose among more than two places: the record as the code chooses its fields is the one that follows. Rests on Turns.
-use mathlib.Core.Path.{_≡_, refl, ap, _∙_}
+-- Rows 1 and 11, which choose among more than two places: the record as the code chooses its fields is the one that follows. Rests on Turns.
+use mathlib.Core.Path.{_≡_, refl, sym, ap, _∙_}
 use mathlib.Core.Bool.{Bool, true, false, cond, not, _&&_, _||_}
 use mathlib.Core.List.{List}
 use Prim.Native.Nat.{ℕ}
 use lib.Dec.{eqb}
-use lib.ListN.{getD}
-use Rattle.record.specs.Record.{_▸_, _with_, to, pred≔, curr≔, succ≔, Inserts, False, Fail}
+use Rattle.basics.proofs.Tests.{by-test}
+use Rattle.record.specs.Record.{_▸_, _with_, to, pred≔, curr≔, succ≔, headNode, Inserts, False}
 use Rattle.record.specs.declared.Node.{Node}
 use Rattle.record.specs.declared.Process.{Process}
 use Rattle.record.specs.declared.Record.{Record}
 use Rattle.record.specs.declared.Outcome.the-variants.{Refused, Accepted}
-use Rattle.table.specs.Words.{Memory, memory, targetOf, isMarked, inUse, below, equal}
+use Rattle.table.specs.Words.{Memory, inUse, below, equal}
 use Rattle.table.specs.Places.{Next, goes, usesOwn, curr, own, placeOf, row, searchEnds}
 use Rattle.table.specs.Steps.{usable, ownUsable, recordAfter}
-use Rattle.words.specs.Lent.{orderOf}
-use Rattle.words.specs.declared.Order.{Order}
+use Rattle.table.specs.Events.{step}
+use Rattle.words.specs.LentMemory.{sized}
+use Rattle.words.specs.LentWords.{comparedOf}
+use Rattle.words.specs.declared.Compared.{Compared}
 use Rattle.words.specs.declared.Sizes.{Sizes}
-use Rattle.list.specs.declared.access.Read.{Read}
+use Rattle.list.specs.declared.access.LinkRead.{LinkRead}
 use Rattle.list.specs.declared.Acted.{Acted}
 use Rattle.list.specs.declared.search.Goal.{Goal}
 use Rattle.list.specs.Acting.{left}
-use Rattle.list.specs.Parts.{StandsAt, turnOf, answered, stepped, readOf, EndsAt}
-use Rattle.list.proofs.Turns.{left-unless, read-link-own, read-link, own-record}
+use Rattle.list.specs.Accesses.{linkRead}
+use Rattle.list.specs.Rows.{StandsAt, turnOf, answered, EndsAt}
+use Rattle.list.proofs.Turns.{left-unless, read-link-own, read-link}
 
--- the record and the use of own that follow from the tests of row 1
+-- ---- row 1
+
+-- the use of own that follows from the tests
 module _ (used : Node → Bool) (r : Record) where
   own-scans : (mark low : Bool) (a b : Record) (x : Next) →
       cond mark true (cond low true (ownUsable used r x)) ≡ ownUsable used r (cond mark (goes a) (cond low (goes b) x))
@@ -73,131 +78,107 @@ scan-left : (r : Record) (fits mark low : Bool) (target : Node) (place answer : 
 scan-left r true mark low target place answer = refl
 scan-left r false mark low target place answer = refl
 
+-- of what its calls told
+module _ (m : Memory) (sizes : Sizes) (p : Process) (r : Record) (read : LinkRead) (order : Compared) (own-usable : Bool) (ends : Goal)
+    (at : StandsAt 1 r) (is : read ≡ linkRead (sized sizes m) r curr)
+    (o : order ≡ comparedOf (m .addresses) (cond (read .accepted) (r .lost .curr) headNode) (r .kept .address))
+    (u : own-usable ≡ usable (inUse (sized sizes m)) r own)
+    (e : EndsAt (r .lost .recovering) (eqb (r .lost .curr .0) (r .kept .node .0)) (eqb (r .kept .kind) 0) (order .equal) (r .lost .pending) ends) where
+  abbrev used : Node → Bool
+  used = inUse (sized sizes m)
+
+  abbrev low : Bool
+  low = below (m .addresses) (r .lost .curr) (r .kept .address)
+
+  abbrev follows : Node → Bool → Next
+  follows target mark =
+      cond mark (goes (found r target ▸ to 2)) (cond low (goes (onward r target ▸ to 1)) (searchEnds (m .addresses) (found r target)))
+
+  abbrev next : Next
+  next = follows (read .target) (read .mark)
+
+  -- the address of curr was looked at where the link was accepted
+  compared : read .accepted ≡ true → order ≡ comparedOf (m .addresses) (r .lost .curr) (r .kept .address)
+  compared h = o ∙ rw h refl
+
+  own-is : (s : Record) → s ≡ found r (read .target) → cond (r .lost .recovering) (usable used r own) true ≡ ownUsable used r (searchEnds (m .addresses) s)
+  unfolding searchEnds
+  own-is s found-is = rw found-is (own-ends used r (r .lost .recovering) (eqb (r .kept .kind) Inserts) _ _ _)
+
+  abbrev fits : Bool
+  fits = read .accepted && (((read .mark || order .below) || not (r .lost .recovering)) || own-usable)
+
+  own-fits : read .accepted ≡ true → (((read .mark || order .below) || not (r .lost .recovering)) || own-usable) ≡ ownUsable used r next
+  unfolding comparedOf
+  own-fits h =
+      rw (compared h, u)
+      (own-tested (read .mark) low (r .lost .recovering) (usable used r own) ∙ rw (own-is _ refl) (own-scans used r (read .mark) low _ _ _))
+
+  fits-is : fits ≡ (read .accepted && ownUsable used r next)
+  fits-is = by-test (read .accepted) (λ h. rw h (own-fits h)) (λ h. rw h refl)
+
+  follows-is : read .accepted ≡ true → chosen r (read .target) (read .mark) (order .below) ends ≡ recordAfter next
+  unfolding comparedOf EndsAt
+  follows-is h =
+      ap (λ (b : Bool). chosen r (read .target) (read .mark) b ends) (ap (λ (x : Compared). x .below) (compared h))
+      ∙ scan-chooses r (read .target) (read .mark) low ends _
+      (e (m .addresses) (found r (read .target)) refl refl refl (ap (λ (x : Compared). x .equal) (sym (compared h))) refl)
+
+  scans : left m (turnOf fits sizes r (chosen r (read .target) (read .mark) (order .below) ends)) ≡ step (sized sizes m) p r
+  unfolding row placeOf
+  scans = read-link-own m sizes p r 1 at curr follows refl read is fits _ fits-is follows-is
+
+  pub scanned : (low-place next-place next-answer : ℕ) (onto : Node) (place answer : ℕ) (x : Record) (a : Acted) →
+      low-place ≡ cond (order .below) 1 (ends .place) →
+      next-place ≡ cond (read .mark) 2 low-place →
+      next-answer ≡ cond (read .mark || order .below) (r .lost .pending) (ends .answer) →
+      onto ≡ cond fits (read .target) (r .lost .succ) →
+      place ≡ cond fits next-place (r .lost .place) →
+      answer ≡ cond fits next-answer (r .lost .pending) →
+      x ≡ (cond (fits && not (read .mark) && order .below) (r ▸ succ≔ onto ▸ pred≔ (r .lost .curr) ▸ curr≔ onto) (r ▸ succ≔ onto) ▸ place with answer) →
+      a ≡ answered sizes x (cond fits Accepted (Refused 8)) →
+      left m a ≡ step (sized sizes m) p r
+  scanned low-place next-place next-answer onto place answer x a l n w t q v made says =
+      rw (says, made, v, q, t, w, n, l)
+      (ap (left m)
+      (ap (λ (s : Record). answered sizes s (cond fits Accepted (Refused 8)))
+      (scan-left r fits (read .mark) (order .below) (read .target) _ _)
+      ∙ left-unless fits sizes r _)
+      ∙ scans)
+
+-- ---- row 11
+
 walk-left : (r : Record) (fits : Bool) (target : Node) (place answer : ℕ) →
     (r ▸ curr≔ (cond fits target (r .lost .curr)) ▸ cond fits place (r .lost .place) with cond fits answer (r .lost .pending)) ≡
     cond fits (r ▸ curr≔ target ▸ place with answer) r
 walk-left r true target place answer = refl
 walk-left r false target place answer = refl
 
--- the same of row 11, by the order, and of row 13, by what the record holds
 walk-chooses : (r : Record) (target : Node) (low same : Bool) →
-    (r ▸ curr≔ target ▸ cond low 11 (cond same 12 19) with cond (low || same) (r .lost .pending) 1) ≡
+    (r ▸ curr≔ target ▸ cond low 11 (cond same 12 19) with cond (low || same) (r .lost .pending) False) ≡
     cond low (r ▸ curr≔ target ▸ to 11) (cond same (r ▸ curr≔ target ▸ to 12) (r ▸ curr≔ target ▸ 19 with False))
 walk-chooses r target true same = refl
 walk-chooses r target false true = refl
 walk-chooses r target false false = refl
 
-resumes : (r : Record) (answered inserts looks : Bool) →
-    (r ▸ cond answered 19 (cond inserts 0 (cond looks 15 19)) with
-    cond answered (r .kept .result) (cond (inserts || looks) (r .lost .pending) 3)) ≡
-    cond answered (r ▸ 19 with r .kept .result) (cond inserts (r ▸ to 0) (cond looks (r ▸ to 15) (r ▸ 19 with Fail)))
-resumes r true inserts looks = refl
-resumes r false true looks = refl
-resumes r false false true = refl
-resumes r false false false = refl
-
-module _ (addresses links deleters : List ℕ) (sizes : Sizes) (p : Process) (r : Record) where
-  abbrev m : Memory
-  m = memory addresses links deleters (sizes .count)
-
-  abbrev word : ℕ
-  word = getD links (r .lost .curr .0) 0
-
-  abbrev low : Bool
-  low = below addresses (r .lost .curr) (r .kept .address)
-
-  own-is : (found : Record) → found ≡ (r ▸ succ≔ (targetOf word)) →
-      cond (r .lost .recovering) (usable (inUse m) r own) true ≡ ownUsable (inUse m) r (searchEnds addresses found)
-  unfolding searchEnds
-  own-is found is = rw is (own-ends (inUse m) r (r .lost .recovering) (eqb (r .kept .kind) Inserts) _ _ _)
-
-  -- row 1, of what its calls hand back
-  abbrev fitsWith : Read → Order → Bool
-  fitsWith read order = read .accepted && (((read .mark || order .below) || not (r .lost .recovering)) || usable (inUse m) r own)
-
-  scan : StandsAt 1 r → (usable-curr : Bool) (read : Read) (order : Order) (ends : Goal) →
-      usable-curr ≡ inUse m (r .lost .curr) →
-      read ≡ readOf sizes usable-curr word →
-      order ≡ orderOf addresses (r .lost .curr) (r .kept .address) →
-      EndsAt (r .lost .recovering) (eqb (r .lost .curr .0) (r .kept .node .0)) (eqb (r .kept .kind) 0) (order .equal) (r .lost .pending) ends →
-      left addresses links deleters
-      (turnOf (fitsWith read order) sizes r (chosen r (read .target) (read .mark) (order .below) ends))
-      ≡ stepped addresses links deleters sizes p r
-  unfolding row placeOf EndsAt readOf orderOf
-  scan at usable-curr read order ends u k o e =
-      rw (k, o, u)
-      (read-link-own addresses links deleters sizes p r 1 at curr _ _ _ refl
-      (ap (λ x. inUse m (r .lost .curr) && inUse m (targetOf word) && x)
-      (own-tested (isMarked word) low (r .lost .recovering) (usable (inUse m) r own)
-      ∙ rw (own-is _ refl) (own-scans (inUse m) r (isMarked word) low _ _ _)))
-      (scan-chooses r (targetOf word) (isMarked word) low ends _ (e addresses (found r (targetOf word)) refl refl refl (rw o) refl)))
-
-  pub scanned : StandsAt 1 r → (usable-curr own-used : Bool) (read : Read) (order : Order) (ends : Goal) (low-place next-place next-answer : ℕ)
-      (onto : Node) (place answer : ℕ) (x : Record) (a : Acted) →
-      usable-curr ≡ inUse m (r .lost .curr) →
-      read ≡ readOf sizes usable-curr word →
-      order ≡ orderOf addresses (r .lost .curr) (r .kept .address) →
-      EndsAt (r .lost .recovering) (eqb (r .lost .curr .0) (r .kept .node .0)) (eqb (r .kept .kind) 0) (order .equal) (r .lost .pending) ends →
-      low-place ≡ cond (order .below) 1 (ends .place) →
-      next-place ≡ cond (read .mark) 2 low-place →
-      next-answer ≡ cond (read .mark || order .below) (r .lost .pending) (ends .answer) →
-      own-used ≡ usable (inUse m) r own →
-      (let fits = read .accepted && (((read .mark || order .below) || not (r .lost .recovering)) || own-used) in
-      onto ≡ cond fits (read .target) (r .lost .succ) →
-      place ≡ cond fits next-place (r .lost .place) →
-      answer ≡ cond fits next-answer (r .lost .pending) →
-      x ≡ (cond (fits && not (read .mark) && order .below) (r ▸ succ≔ onto ▸ pred≔ (r .lost .curr) ▸ curr≔ onto) (r ▸ succ≔ onto) ▸ place with answer)
-      →
-      a ≡ answered sizes x (cond fits Accepted (Refused 8)) →
-      left addresses links deleters a ≡ stepped addresses links deleters sizes p r)
-  scanned at usable-curr own-used read order ends low-place next-place next-answer onto place answer x a u k o e l n w h t q v made is =
-      rw (is, made, v, q, t, h, w, n, l)
-      (ap (left addresses links deleters)
-      (ap (λ x. answered sizes x (cond (fitsWith read order) Accepted (Refused 8)))
-      (scan-left r (fitsWith read order) (read .mark) (order .below) (read .target) _ _)
-      ∙ left-unless (fitsWith read order) sizes r _)
-      ∙ scan at usable-curr read order ends u k o e)
-
-  -- row 11
-  abbrev walkFits : Bool
-  walkFits = inUse m (r .lost .curr) && inUse m (targetOf word)
-
-  abbrev under : Node → Bool
-  under target = below addresses target (r .kept .address)
-
-  abbrev same : Node → Bool
-  same target = equal addresses target (r .kept .address)
-
-  pub walks : StandsAt 11 r →
-      (let target = targetOf word in
-      left addresses links deleters
-      (answered sizes
-      (r ▸ curr≔ (cond walkFits target (r .lost .curr))
-      ▸ cond walkFits (cond (under target) 11 (cond (same target) 12 19)) (r .lost .place)
-      with cond walkFits (cond (under target || same target) (r .lost .pending) 1) (r .lost .pending))
-      (cond walkFits Accepted (Refused 8))) ≡
-      stepped addresses links deleters sizes p r)
-  unfolding row placeOf
-  walks at =
-      ap (left addresses links deleters)
-      (ap (λ x. answered sizes x (cond walkFits Accepted (Refused 8))) (walk-left r walkFits (targetOf word) _ _)
-      ∙ left-unless walkFits sizes r _)
-      ∙ read-link addresses links deleters sizes p r 11 at curr _
-      (λ x target mark. x ▸ curr≔ target ▸ cond (under target) 11 (cond (same target) 12 19) with
-      cond (under target || same target) (x .lost .pending) 1) refl
-      (λ target mark. walk-chooses r target (under target) (same target))
-
-  -- row 13
-  pub resumed : StandsAt 13 r →
-      (let known = not (eqb (r .kept .result) 0) in
-      let inserts = eqb (r .kept .kind) 0 in
-      let looks = eqb (r .kept .kind) 1 && not (eqb (r .kept .node .0) 0) in
-      left addresses links deleters
-      (answered sizes
-      (r ▸ cond known 19 (cond inserts 0 (cond looks 15 19)) with
-      cond known (r .kept .result) (cond (inserts || looks) (r .lost .pending) 3)) Accepted) ≡
-      stepped addresses links deleters sizes p r)
-  unfolding row placeOf
-  resumed at =
-      rw (resumes r (not (eqb (r .kept .result) 0)) (eqb (r .kept .kind) 0) (eqb (r .kept .kind) 1 && not (eqb (r .kept .node .0) 0)))
-      (own-record addresses links deleters sizes p r 13 at _ refl)
+module _ (m : Memory) (sizes : Sizes) (p : Process) (r : Record) (read : LinkRead) (order : Compared) (at : StandsAt 11 r)
+    (is : read ≡ linkRead (sized sizes m) r curr) (o : order ≡ comparedOf (m .addresses) (read .target) (r .kept .address)) where
+  pub walked : (same-place next-place next-answer : ℕ) (onto : Node) (place answer : ℕ) (x : Record) (a : Acted) →
+      same-place ≡ cond (order .equal) 12 19 →
+      next-place ≡ cond (order .below) 11 same-place →
+      next-answer ≡ cond (order .below || order .equal) (r .lost .pending) False →
+      onto ≡ cond (read .accepted) (read .target) (r .lost .curr) →
+      place ≡ cond (read .accepted) next-place (r .lost .place) →
+      answer ≡ cond (read .accepted) next-answer (r .lost .pending) →
+      x ≡ (r ▸ curr≔ onto ▸ place with answer) →
+      a ≡ answered sizes x (cond (read .accepted) Accepted (Refused 8)) →
+      left m a ≡ step (sized sizes m) p r
+  unfolding row placeOf comparedOf
+  walked same-place next-place next-answer onto place answer x a s n w t q v made says =
+      let low : Bool = below (m .addresses) (read .target) (r .kept .address) in
+      let same : Bool = equal (m .addresses) (read .target) (r .kept .address) in
+      rw (says, made, v, q, t, w, n, s, o)
+      (ap (left m)
+      (ap (λ (y : Record). answered sizes y (cond (read .accepted) Accepted (Refused 8))) (walk-left r (read .accepted) (read .target) _ _)
+      ∙ left-unless (read .accepted) sizes r _)
+      ∙ read-link m sizes p r 11 at curr _ refl read is _ (walk-chooses r (read .target) low same))

@@ -1,5 +1,6 @@
--- An event judged: refusals 7, 1, 2 in this order, then what it does; and what follows of tables that fit. Rests on Events.
-use mathlib.Core.Path.{_≡_, refl, _∙_}
+-- An event judged: refusals 7, 1, 2 in this order, then what each action does; and what follows of tables that fit. Rests on the table's Events and
+-- on Rows.
+use mathlib.Core.Path.{_≡_, refl, sym, ap, _∙_}
 use mathlib.Core.Bool.{Bool, true, false}
 use mathlib.Core.List.{List}
 use mathlib.Core.Option.{none}
@@ -9,20 +10,23 @@ use lib.Dec.{ltb, eqb}
 use lib.ListN.{set}
 use borrow.Author.Tests.{ltb-true, eq-eqb, ne-eqb}
 use Rattle.record.specs.Record.{tailNode, requested, wentDown, restarted, node, noNode, Inserts, Deletes, Finds}
-use Rattle.record.specs.Event.{processOf, outcomeOf, refusalIn}
+use Rattle.record.specs.Event.{outcomeOf, refusalIn}
+use Rattle.record.specs.declared.Node.{Node}
 use Rattle.record.specs.declared.Process.{Process}
 use Rattle.record.specs.declared.Address.{Address}
 use Rattle.record.specs.declared.Record.{Record}
-use Rattle.record.specs.declared.Event.{Event}
-use Rattle.record.specs.declared.Event.the-variants.{Insert, Delete, Find, Step, Stop, Restart}
+use Rattle.record.specs.declared.Action.{Action}
+use Rattle.record.specs.declared.Action.the-variants.{Insert, Delete, Find, Step, Stop, Restart}
 use Rattle.record.specs.declared.Outcome.the-variants.{Refused, Accepted}
-use Rattle.table.specs.Words.{Memory, memory, givenOut, linkWord}
-use Rattle.table.specs.Events.{refused, act, does, tablesFit, statusNeeded}
+use Rattle.table.specs.Words.{Memory, addresses≔, links≔, deleters≔, count≔, nextNode, givenOut, linkWord}
+use Rattle.table.specs.Events.{Left, leaving, step, does, act, tablesFit, statusNeeded}
+use Rattle.table.proofs.Laws.Fitting.{limits, room-of}
+use Rattle.table.proofs.Laws.InUse.{among-stated}
+use Rattle.words.specs.LentMemory.{lentMemory, sized}
 use Rattle.words.specs.declared.Sizes.{Sizes}
 use Rattle.list.specs.declared.Acted.{Acted}
-use Rattle.list.specs.Acting.{Left, left, leftOf, actOn, counted}
-use Rattle.list.specs.Parts.{answered, stepped, Within}
-use Rattle.table.proofs.Fitting.{limits-of, sizes-of, room-of}
+use Rattle.list.specs.Acting.{left}
+use Rattle.list.specs.Rows.{answered, oneMore, Within}
 
 -- where no test refuses, each holds
 none-refuses : (fits there ready : Bool) (refusal : ℕ) → refusal ≡ refusalIn fits there ready → refusal ≡ 0 →
@@ -39,101 +43,102 @@ is-refusal zero some = absurd (some refl)
 is-refusal (suc n) some = refl
 
 -- what tables that fit hold
-module _ (addresses links deleters : List ℕ) (sizes : Sizes)
-    (fits : tablesFit (sizes .nodes) (sizes .processes) (memory addresses links deleters (sizes .count)) ≡ true) where
+module _ (m : Memory) (sizes : Sizes) (fits : tablesFit (sized sizes m) ≡ true) where
   within : Within sizes
   within =
       record {
-        few = limits-of (sizes .nodes) (sizes .processes) (sizes-of (sizes .nodes) (sizes .processes) _ fits) .few;
-        given = room-of (sizes .nodes) (sizes .processes) _ fits .most;
+        few = limits (sized sizes m) fits .few;
+        given = room-of (sized sizes m) fits .most;
+        stated = λ k n used. among-stated (sized sizes k) (room-of (sized sizes m) fits .most) n used;
       }
 
   few-processes : (p : Process) → ltb (p .0) (sizes .processes) ≡ true → p .0 < 64
-  few-processes p there =
-      omega (
-        arith,
-        ltb-true (p .0) (sizes .processes) there,
-        limits-of (sizes .nodes) (sizes .processes) (sizes-of (sizes .nodes) (sizes .processes) _ fits) .few-processes,
-      )
+  few-processes p there = omega (arith, ltb-true (p .0) (sizes .processes) there, limits (sized sizes m) fits .few-processes)
 
--- what the calls of `act` told: the tests of the tables, of the process and of the status, and the first refusal of the three
-module _ (addresses links deleters : List ℕ) (sizes : Sizes) (r : Record) (e : Event) (fits : Bool) (q : Process) (needed refusal : ℕ)
-    (f : fits ≡ tablesFit (sizes .nodes) (sizes .processes) (memory addresses links deleters (sizes .count)))
-    (t : q ≡ processOf e) (s : needed ≡ statusNeeded e)
-    (is : refusal ≡ refusalIn fits (ltb (q .0) (sizes .processes)) (eqb (r .kept .status) needed)) where
+-- what `judge` told: the first refusal of the three, by the tests of the tables, of the process and of the status
+module _ (addresses links deleters : List ℕ) (sizes : Sizes) (p : Process) (r : Record) (x : Action) (refusal : ℕ)
+    (is : refusal ≡ refusalIn (tablesFit (lentMemory addresses links deleters sizes)) (ltb (p .0) (sizes .processes))
+    (eqb (r .kept .status) (statusNeeded x))) where
   abbrev m : Memory
-  m = memory addresses links deleters (sizes .count)
+  m = lentMemory addresses links deleters sizes
 
-  abbrev tested : refusal ≡ refusalIn (tablesFit (sizes .nodes) (sizes .processes) m) (ltb (processOf e .0) (sizes .processes))
-      (eqb (r .kept .status) (statusNeeded e))
-  tested = is ∙ rw (f, t, s)
+  pub refuses : (refusal ≡ 0 → ⊥) → (a : Acted) → a ≡ answered sizes r (Refused refusal) → left m a ≡ act m p r x
+  unfolding act
+  refuses some a made = rw (made, ← is, ne-eqb refusal 0 some, is-refusal refusal some)
 
-  pub refuses : (refusal ≡ 0 → ⊥) → (a : Acted) → a ≡ answered sizes r (Refused refusal) →
-      left addresses links deleters a ≡ actOn addresses links deleters sizes r e
-  unfolding actOn act
-  refuses some a made = rw (made, ← tested, ne-eqb refusal 0 some, is-refusal refusal some)
+  pub acts : refusal ≡ 0 → (d : Left) → d ≡ does m p r x → d ≡ act m p r x
+  unfolding act
+  acts unrefused d made = made ∙ rw (← is, eq-eqb refusal 0 unrefused)
 
-  pub acts : refusal ≡ 0 → (x : Left) → x ≡ leftOf sizes (does (sizes .nodes) m r e) → x ≡ actOn addresses links deleters sizes r e
-  unfolding actOn act
-  acts unrefused x made = made ∙ rw (← tested, eq-eqb refusal 0 unrefused)
+-- where nothing is refused, the sizes hold and the process is one of few
+pub able : (addresses links deleters : List ℕ) (sizes : Sizes) (p : Process) (ready : Bool) (refusal : ℕ) →
+    refusal ≡ refusalIn (tablesFit (lentMemory addresses links deleters sizes)) (ltb (p .0) (sizes .processes)) ready → refusal ≡ 0 →
+    Within sizes × (p .0 < 64)
+able addresses links deleters sizes p ready refusal is unrefused =
+    let m : Memory = lentMemory addresses links deleters sizes in
+    let tests = none-refuses _ _ _ refusal is unrefused in
+    (within m sizes (tests .0), few-processes m sizes (tests .0) p (tests .1))
 
-  pub able : refusal ≡ 0 → Within sizes × (processOf e .0 < 64)
-  able unrefused =
-      let tests = none-refuses _ _ _ refusal tested unrefused in
-      (within addresses links deleters sizes (tests .0), few-processes addresses links deleters sizes (tests .0) (processOf e) (tests .1))
+-- what each action does
+module _ (addresses links deleters : List ℕ) (sizes : Sizes) (p : Process) (r : Record) (x : Action) where
+  abbrev lent : Memory
+  lent = lentMemory addresses links deleters sizes
 
--- what each kind does
-module _ (addresses links deleters : List ℕ) (sizes : Sizes) (r : Record) (e : Event) where
-  abbrev mem : Memory
-  mem = memory addresses links deleters (sizes .count)
+  module _ (b : Acted) (addresses′ links′ deleters′ : List ℕ) where
+    pub inserts : (a : Address) → x ≡ Insert a →
+        ((q : Process) → left (lentMemory addresses′ links′ deleters′ (b .sizes)) b ≡ does lent q r (Insert a)) →
+        left (lentMemory addresses′ links′ deleters′ (b .sizes)) b ≡ does lent p r x
+    inserts a is done = rw is (done p)
 
-  pub inserts : (x : Left) (p : Process) (a : Address) → e ≡ Insert p a → x ≡ leftOf sizes (does (sizes .nodes) mem r (Insert p a)) →
-      x ≡ leftOf sizes (does (sizes .nodes) mem r e)
-  inserts x p a is h = rw is h
-
-  pub steps : (x : Left) (p : Process) → e ≡ Step p → x ≡ stepped addresses links deleters sizes p r →
-      x ≡ leftOf sizes (does (sizes .nodes) mem r e)
-  unfolding does stepped
-  steps x p is h = rw is h
+    pub steps : x ≡ Step →
+        ((m : Memory) → left (deleters≔ deleters′ (links≔ links′ (addresses≔ addresses m))) b ≡
+        step (sized sizes (deleters≔ deleters (links≔ links (addresses≔ addresses m)))) p r) →
+        left (lentMemory addresses links′ deleters′ (b .sizes)) b ≡ does lent p r x
+    unfolding does
+    steps is done = rw is (done lent)
 
   module _ (b : Acted) (q : Record) (made : b ≡ answered sizes q Accepted) where
-    pub deletes : (p : Process) (a : Address) → e ≡ Delete p a → q ≡ requested 0 Deletes a noNode →
-        left addresses links deleters b ≡ leftOf sizes (does (sizes .nodes) mem r e)
+    pub deletes : (a : Address) → x ≡ Delete a → q ≡ requested 0 Deletes a noNode r → left (lentMemory addresses links deleters (b .sizes)) b ≡ does lent p r x
     unfolding does
-    deletes p a is h = rw (is, made, h)
+    deletes a is h = rw (is, made, h)
 
-    pub finds : (p : Process) (a : Address) → e ≡ Find p a → q ≡ requested 11 Finds a noNode →
-        left addresses links deleters b ≡ leftOf sizes (does (sizes .nodes) mem r e)
+    pub finds : (a : Address) → x ≡ Find a → q ≡ requested 11 Finds a noNode r → left (lentMemory addresses links deleters (b .sizes)) b ≡ does lent p r x
     unfolding does
-    finds p a is h = rw (is, made, h)
+    finds a is h = rw (is, made, h)
 
-    pub stops : (p : Process) → e ≡ Stop p → q ≡ wentDown r → left addresses links deleters b ≡ leftOf sizes (does (sizes .nodes) mem r e)
+    pub stops : x ≡ Stop → q ≡ wentDown r → left (lentMemory addresses links deleters (b .sizes)) b ≡ does lent p r x
     unfolding does
-    stops p is h = rw (is, made, h)
+    stops is h = rw (is, made, h)
 
-    pub restarts : (p : Process) → e ≡ Restart p → q ≡ restarted r →
-        left addresses links deleters b ≡ leftOf sizes (does (sizes .nodes) mem r e)
+    pub restarts : x ≡ Restart → q ≡ restarted r → left (lentMemory addresses links deleters (b .sizes)) b ≡ does lent p r x
     unfolding does
-    restarts p is h = rw (is, made, h)
+    restarts is h = rw (is, made, h)
 
-pub ruleset kinds = (inserts, deletes, finds, steps, stops, restarts)
-
--- the process of a step
-pub stepping : (e : Event) (p : Process) → e ≡ Step p → processOf e .0 < 64 → p .0 < 64
-stepping e p is h = rw is at h
+-- a node given out
+pub given : (m : Memory) (addresses links deleters addresses′ links′ deleters′ : List ℕ) (taken : Node) (a : Address) (link : ℕ) →
+    nextNode m ≡ taken → link ≡ linkWord tailNode false →
+    addresses′ ≡ set addresses (taken .0) (a .0) → links′ ≡ set links (taken .0) link → deleters′ ≡ set deleters (taken .0) 0 →
+    addresses≔ addresses′ (links≔ links′ (deleters≔ deleters′ (count≔ (m .count + 1) m))) ≡
+    givenOut a (addresses≔ addresses (links≔ links (deleters≔ deleters m)))
+unfolding givenOut
+given m addresses links deleters addresses′ links′ deleters′ taken a link next made i j k = rw (i, j, k, made, ← next)
 
 -- insert: the table is full, or the next node is given out
-module _ (addresses links deleters : List ℕ) (sizes : Sizes) (r : Record) (p : Process) (a : Address) (b : Acted) where
-  pub full : sizes .count ≡ sizes .nodes → b ≡ answered sizes r (Refused 3) →
-      left addresses links deleters b ≡ leftOf sizes (does (sizes .nodes) (memory addresses links deleters (sizes .count)) r (Insert p a))
+module _ (addresses links deleters : List ℕ) (sizes : Sizes) (p : Process) (r : Record) (a : Address) (b : Acted) where
+  abbrev mem : Memory
+  mem = lentMemory addresses links deleters sizes
+
+  pub full : sizes .count ≡ sizes .nodes → b ≡ answered sizes r (Refused 3) → left mem b ≡ does mem p r (Insert a)
   unfolding does
   full h is = rw (is, eq-eqb (sizes .count) (sizes .nodes) h)
 
-  pub gives-out : (q : Record) (link : ℕ) (addresses′ links′ deleters′ : List ℕ) →
-      addresses′ ≡ set addresses (sizes .count) (a .0) → links′ ≡ set links (sizes .count) link → deleters′ ≡ set deleters (sizes .count) 0 →
-      link ≡ linkWord tailNode false → (sizes .count ≡ sizes .nodes → ⊥) →
-      b ≡ answered (counted sizes (sizes .count + 1)) q Accepted → q ≡ requested 0 Inserts a (node (sizes .count)) →
-      left addresses′ links′ deleters′ b ≡
-      leftOf sizes (does (sizes .nodes) (memory addresses links deleters (sizes .count)) r (Insert p a))
-  unfolding does givenOut
-  gives-out q link addresses′ links′ deleters′ i j k l h is e = rw (i, j, k, is, e, l, ne-eqb (sizes .count) (sizes .nodes) h)
+  pub takes : (q : Record) (z : Sizes) (addresses′ links′ deleters′ : List ℕ) →
+      ((m : Memory) → nextNode m ≡ node (sizes .count) →
+      addresses≔ addresses′ (links≔ links′ (deleters≔ deleters′ (count≔ (m .count + 1) m))) ≡
+      givenOut a (addresses≔ addresses (links≔ links (deleters≔ deleters m)))) →
+      (sizes .count ≡ sizes .nodes → ⊥) → z ≡ oneMore sizes → b ≡ answered z q Accepted → q ≡ requested 0 Inserts a (node (sizes .count)) r →
+      left (lentMemory addresses′ links′ deleters′ (b .sizes)) b ≡ does mem p r (Insert a)
+  unfolding does
+  takes q z addresses′ links′ deleters′ gives some more is made =
+      rw (is, more, made, ne-eqb (sizes .count) (sizes .nodes) some)
+      (ap (λ (m : Memory). leaving m (requested 0 Inserts a (node (sizes .count)) r) Accepted) (gives mem refl))

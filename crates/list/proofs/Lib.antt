@@ -1,6 +1,7 @@
-pub mod Tested
 pub mod Turns
+pub mod Accessed
 pub mod Ends
-pub mod Places
+pub mod ByPlace
+pub mod InRange
 pub mod Judged
 pub mod Unique

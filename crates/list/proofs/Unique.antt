@@ -1,25 +1,21 @@
--- The promise of `act` leaves one outcome: any two that meet it for the same entry are equal; so does that of `process_of`, by the record's
--- `answer-unique`. Rests on the bundle of Acting.
-use mathlib.Core.Path.{_≡_, sym, ap, _∙_}
+-- The promise of `act` leaves one outcome: any two that meet it for the same entry are equal, table by table. Rests on Acting.
+use mathlib.Core.Path.{_≡_, sym, _∙_}
 use mathlib.Core.List.{List}
 use Prim.Native.Nat.{ℕ}
-use Rattle.record.specs.declared.Record.{Record}
-use Rattle.record.specs.declared.Event.{Event}
-use Rattle.words.specs.declared.Sizes.{Sizes}
+use Rattle.table.specs.Words.{Memory}
+use Rattle.table.specs.Events.{Left}
+use Rattle.words.specs.LentMemory.{lentMemory, sizesOf}
 use Rattle.list.specs.declared.Acted.{Acted}
-use Rattle.list.specs.Acting.{Left, left, actOn}
+use Rattle.list.specs.Acting.{left}
 
-pub act-unique : (addresses links deleters : List ℕ) (sizes : Sizes) (r : Record) (e : Event)
-    (addresses′ links′ deleters′ addresses″ links″ deleters″ : List ℕ) (answer′ answer″ : Acted) →
-    left addresses′ links′ deleters′ answer′ ≡ actOn addresses links deleters sizes r e →
-    left addresses″ links″ deleters″ answer″ ≡ actOn addresses links deleters sizes r e →
-    (addresses′ ≡ addresses″) × (links′ ≡ links″) × (deleters′ ≡ deleters″) × (answer′ ≡ answer″)
-act-unique addresses links deleters sizes r e addresses′ links′ deleters′ addresses″ links″ deleters″ answer′ answer″ one other = (
-  ap (λ (l : Left). l .addresses) same,
-  ap (λ (l : Left). l .links) same,
-  ap (λ (l : Left). l .deleters) same,
-  ap (λ (l : Left). l .answer) same,
-)
-  where
-    same : left addresses′ links′ deleters′ answer′ ≡ left addresses″ links″ deleters″ answer″
-    same = one ∙ sym other
+module _ (d : Left) (addresses′ links′ deleters′ addresses″ links″ deleters″ : List ℕ) (answer′ answer″ : Acted) where
+  pub act-unique : left (lentMemory addresses′ links′ deleters′ (answer′ .sizes)) answer′ ≡ d →
+      left (lentMemory addresses″ links″ deleters″ (answer″ .sizes)) answer″ ≡ d →
+      (addresses′ ≡ addresses″) × (links′ ≡ links″) × (deleters′ ≡ deleters″) × (answer′ ≡ answer″)
+  act-unique one other =
+      let same = one ∙ sym other in (
+        λ i. same i .memory .addresses,
+        λ i. same i .memory .links,
+        λ i. same i .memory .deleters,
+        λ i. record { advanced = same i .advanced; sizes = sizesOf (same i .memory); outcome = same i .outcome },
+      )

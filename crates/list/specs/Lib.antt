@@ -1,2 +1,3 @@
 pub mod Acting
-pub mod Parts
+pub mod Accesses
+pub mod Rows

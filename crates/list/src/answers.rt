@@ -2,9 +2,9 @@
 ghost use mathlib.Core.Path.{_≡_};
 ghost use mathlib.Core.Bool.{cond};
 ghost use Rattle.record.specs.declared.Outcome.the-variants.{Refused, Accepted};
-ghost use Rattle.list.specs.Parts.{answered, turnOf};
+ghost use Rattle.list.specs.Rows.{answered, turnOf};
 use crate::Acted;
-use record::Node;
+use crate::access::SwapMet;
 use record::Outcome;
 use record::Record;
 use words::Sizes;
@@ -20,17 +20,7 @@ pub(crate) fn pick(first: bool, one: u8, other: u8) -> u8
 }
 
 // The one record or the other.
-pub(crate) fn either(first: bool, one: Record, other: Record) -> Record
-    ensures { λ r. ⌜ r ≡ cond first one other ⌝ }
-{
-    if first {
-        return one;
-    }
-    other
-}
-
-// The one node or the other.
-pub(crate) fn node(first: bool, one: Node, other: Node) -> Node
+fn either(first: bool, one: Record, other: Record) -> Record
     ensures { λ r. ⌜ r ≡ cond first one other ⌝ }
 {
     if first {
@@ -69,6 +59,13 @@ pub(crate) fn turn(fits: bool, sizes: Sizes, old: Record, after: Record) -> Acte
         return accepted(sizes, after);
     }
     refused(sizes, old, 8)
+}
+
+// After a swap: the one record where it wrote, the other where it was lost.
+pub(crate) fn swapped(swap: SwapMet, sizes: Sizes, old: Record, done: Record, lost: Record) -> Acted
+    ensures { λ r. ⌜ r ≡ turnOf (swap .accepted) sizes old (cond (swap .wrote) done lost) ⌝ }
+{
+    turn(swap.accepted, sizes, old, either(swap.wrote, done, lost))
 }
 
 // The outcome of a step that is accepted, or refused with 8.

@@ -1,19 +1,20 @@
-// One event: its process and the status that it needs, and what each kind does. Rests on the step.
+// One action: the status that it needs, and what each does. Rests on the step.
 ghost use mathlib.Core.Path.{_≡_};
-ghost use Prim.Native.Nat.{_<_};
-ghost use Rattle.record.specs.Event.{processOf};
-ghost use Rattle.record.specs.declared.Event.the-variants as of;
+ghost use Prim.Native.Nat.{_<_, _+_};
+ghost use Rattle.record.specs.declared.Process as spec;
+ghost use Rattle.record.specs.declared.Action.the-variants as of;
+ghost use Rattle.table.specs.Words.{Memory, addresses≔, links≔, deleters≔, count≔, nextNode, givenOut};
 ghost use Rattle.table.specs.Events.{does, statusNeeded};
-ghost use Rattle.words.specs.Lent.{lentMemory};
-ghost use Rattle.list.specs.Acting.{left, leftOf};
-ghost use Rattle.list.specs.Parts.{Within};
+ghost use Rattle.words.specs.LentMemory.{lentMemory};
+ghost use Rattle.list.specs.Acting.{left};
+ghost use Rattle.list.specs.Rows.{Within, oneMore};
 use crate::Acted;
 use crate::answers;
 use crate::step;
+use record::Action;
 use record::Address;
 use record::DELETES;
 use record::DOWN;
-use record::Event;
 use record::FINDS;
 use record::IDLE;
 use record::INSERTS;
@@ -25,31 +26,47 @@ use record::Record;
 use record::TAIL;
 use words::Sizes;
 
-// The process of an event.
-pub fn process_of(event: Event) -> Process
-    ensures { λ r. ⌜ r ≡ processOf event ⌝ }
+// The status that an action needs.
+pub(crate) fn status_needed(action: Action) -> u8
+    ensures { λ r. ⌜ r ≡ statusNeeded action ⌝ }
 {
-    match event {
-        Event::Insert(p, _) => p,
-        Event::Delete(p, _) => p,
-        Event::Find(p, _) => p,
-        Event::Step(p) => p,
-        Event::Stop(p) => p,
-        Event::Restart(p) => p,
+    match action {
+        Action::Insert(_) => IDLE,
+        Action::Delete(_) => IDLE,
+        Action::Find(_) => IDLE,
+        Action::Step => RUNNING,
+        Action::Stop => RUNNING,
+        Action::Restart => DOWN,
     }
 }
 
-// The status that an event needs.
-pub(crate) fn status_needed(event: Event) -> u8
-    ensures { λ r. ⌜ r ≡ statusNeeded event ⌝ }
+// The words of the next node: its address, its link unmarked to tail, deleter none.
+fn give_out(
+    addresses: &mut [u32],
+    links: &mut [u32],
+    deleters: &mut [u32],
+    taken: Node,
+    address: Address,
+)
+    ensures { λ _. ⌜ ((m : Memory) → nextNode m ≡ taken →
+        addresses≔ (now (addresses .exit)) (links≔ (now (links .exit)) (deleters≔ (now (deleters .exit)) (count≔ (m .count + 1) m))) ≡
+        givenOut address (addresses≔ (now (addresses .entry)) (links≔ (now (links .entry)) (deleters≔ (now (deleters .entry)) m)))) ⌝ }
 {
-    match event {
-        Event::Insert(_, _) => IDLE,
-        Event::Delete(_, _) => IDLE,
-        Event::Find(_, _) => IDLE,
-        Event::Step(_) => RUNNING,
-        Event::Stop(_) => RUNNING,
-        Event::Restart(_) => DOWN,
+    let link = words::link_word(TAIL, false);
+    words::write(addresses, taken, address.0);
+    words::write(links, taken, link);
+    words::write(deleters, taken, 0);
+}
+
+// One node more given out.
+fn one_more(sizes: Sizes) -> Sizes
+    requires { ⌜ Within sizes ⌝ }
+    ensures { λ r. ⌜ r ≡ oneMore sizes ⌝ }
+{
+    Sizes {
+        nodes: sizes.nodes,
+        processes: sizes.processes,
+        count: sizes.count + 1,
     }
 }
 
@@ -60,56 +77,44 @@ fn insert(
     deleters: &mut [u32],
     sizes: Sizes,
     old: Record,
-    p: Process,
     address: Address,
 ) -> Acted
     requires { ⌜ Within sizes ⌝ }
-    ensures { λ r. ⌜ left (now (addresses .exit)) (now (links .exit)) (now (deleters .exit)) r ≡
-        leftOf sizes (does (sizes .nodes) (lentMemory (now (addresses .entry)) (now (links .entry)) (now (deleters .entry)) sizes) old
-        (of.Insert p address)) ⌝ }
+    ensures { λ r. ⌜ ((p : spec.Process) → left (lentMemory (now (addresses .exit)) (now (links .exit)) (now (deleters .exit)) (r .sizes)) r ≡
+        does (lentMemory (now (addresses .entry)) (now (links .entry)) (now (deleters .entry)) sizes) p old (of.Insert address)) ⌝ }
 {
-    let taken = Node(sizes.count);
-    let given = Sizes {
-        nodes: sizes.nodes,
-        processes: sizes.processes,
-        count: sizes.count + 1,
-    };
     if sizes.count == sizes.nodes {
         return answers::refused(sizes, old, 3);
     }
-    let link = words::link_word(TAIL, false);
-    words::write(addresses, taken, address.0);
-    words::write(links, taken, link);
-    words::write(deleters, taken, 0);
-    answers::accepted(given, Record::request(0, INSERTS, address, taken))
+    let taken = Node(sizes.count);
+    give_out(addresses, links, deleters, taken, address);
+    answers::accepted(one_more(sizes), old.request(0, INSERTS, address, taken))
 }
 
-// An event of a process that is there and has the status it needs.
+// The action of a process that is there and has the status it needs.
 pub(crate) fn does(
     addresses: &mut [u32],
     links: &mut [u32],
     deleters: &mut [u32],
     sizes: Sizes,
+    p: Process,
     old: Record,
-    event: Event,
+    action: Action,
 ) -> Acted
     requires { ⌜ Within sizes ⌝ }
-    requires { ⌜ processOf event .0 < 64 ⌝ }
-    ensures { λ r. ⌜ left (now (addresses .exit)) (now (links .exit)) (now (deleters .exit)) r ≡
-        leftOf sizes (does (sizes .nodes) (lentMemory (now (addresses .entry)) (now (links .entry)) (now (deleters .entry)) sizes) old event) ⌝ }
+    requires { ⌜ p .0 < 64 ⌝ }
+    ensures { λ r. ⌜ left (lentMemory (now (addresses .exit)) (now (links .exit)) (now (deleters .exit)) (r .sizes)) r ≡
+        does (lentMemory (now (addresses .entry)) (now (links .entry)) (now (deleters .entry)) sizes) p old action ⌝ }
 {
-    match event {
-        Event::Insert(p, address) => insert(addresses, links, deleters, sizes, old, p, address),
-        Event::Delete(_, address) => answers::accepted(
+    match action {
+        Action::Insert(address) => insert(addresses, links, deleters, sizes, old, address),
+        Action::Delete(address) => answers::accepted(
             sizes,
-            Record::request(0, DELETES, address, NO_NODE),
+            old.request(0, DELETES, address, NO_NODE),
         ),
-        Event::Find(_, address) => answers::accepted(
-            sizes,
-            Record::request(11, FINDS, address, NO_NODE),
-        ),
-        Event::Step(p) => step::step(addresses, links, deleters, sizes, p, old),
-        Event::Stop(_) => answers::accepted(sizes, old.goes_down()),
-        Event::Restart(_) => answers::accepted(sizes, old.restarts()),
+        Action::Find(address) => answers::accepted(sizes, old.request(11, FINDS, address, NO_NODE)),
+        Action::Step => step::step(addresses, links, deleters, sizes, p, old),
+        Action::Stop => answers::accepted(sizes, old.goes_down()),
+        Action::Restart => answers::accepted(sizes, old.restarts()),
     }
 }

@@ -1,18 +1,29 @@
 // Rows 0 to 2: search. Rests on accesses.
 ghost use mathlib.Core.Path.{_≡_};
-ghost use mathlib.Core.List.{List};
-ghost use Prim.Native.Nat.{ℕ};
+ghost use mathlib.Core.Bool.{cond};
+ghost use Rattle.record.specs.Record.{headNode};
 ghost use Rattle.record.specs.declared.Process as spec;
+ghost use Rattle.table.specs.Words.{Memory, addresses≔, links≔, inUse};
+ghost use Rattle.table.specs.Places as table;
+ghost use Rattle.table.specs.Steps.{usable};
+ghost use Rattle.table.specs.Events.{step};
+ghost use Rattle.words.specs.LentMemory.{sized};
+ghost use Rattle.words.specs.LentWords.{comparedOf};
 ghost use Rattle.list.specs.Acting.{left};
-ghost use Rattle.list.specs.Parts.{StandsAt, StandsIn, Within, stepped, EndsAt};
+ghost use Rattle.list.specs.Accesses.{linkRead};
+ghost use Rattle.list.specs.Rows.{StandsAt, Within, EndsAt};
 use crate::Acted;
 use crate::access;
+use crate::access::Field;
+use crate::access::LinkRead;
 use crate::answers;
 use record::FALSE;
 use record::HEAD;
 use record::INSERTS;
 use record::Record;
 use record::TRUE;
+use record::either;
+use words::Compared;
 use words::Sizes;
 
 // Where a search that ends goes, and the pending answer that it goes with.
@@ -63,39 +74,36 @@ fn search_ends(recovering: bool, at_own: bool, inserts: bool, same: bool, pendin
 // Place 0: read head's link.
 pub(crate) fn row_0(links: &[u32], sizes: Sizes, old: Record) -> Acted
     requires { ⌜ StandsAt 0 old ⌝ }
-    ensures { λ a. ⌜ ((addresses deleters : List ℕ) → (p : spec.Process) → left addresses (now (links .entry)) deleters a ≡
-        stepped addresses (now (links .entry)) deleters sizes p old) ⌝ }
+    ensures { λ a. ⌜ ((m : Memory) → (p : spec.Process) → left (links≔ (now (links .entry)) m) a ≡ step (sized sizes (links≔ (now (links .entry)) m)) p old) ⌝ }
 {
-    let read = access::read_link(links, sizes, true, HEAD);
+    let read = access::read_link(links, sizes, old, Field::Head);
     answers::turn(read.accepted, sizes, old, old.from_head(read.target))
 }
 
-// Place 1: read curr's link; on to the next node, or the search ends.
-pub(crate) fn row_1(addresses: &[u32], links: &[u32], sizes: Sizes, old: Record) -> Acted
+// What place 1 makes of the link that it read, of how curr stands to the address, and of whether own may be used.
+fn scan(sizes: Sizes, old: Record, read: LinkRead, order: Compared, own_usable: bool) -> Acted
     requires { ⌜ StandsAt 1 old ⌝ }
-    ensures { λ a. ⌜ ((deleters : List ℕ) → (p : spec.Process) → left (now (addresses .entry)) (now (links .entry)) deleters a ≡
-        stepped (now (addresses .entry)) (now (links .entry)) deleters sizes p old) ⌝ }
+    ensures { λ a. ⌜ ((m : Memory) → (p : spec.Process) →
+        read ≡ linkRead (sized sizes m) old table.curr →
+        order ≡ comparedOf (m .addresses) (cond (read .accepted) (old .lost .curr) headNode) (old .kept .address) →
+        «own_usable» ≡ usable (inUse (sized sizes m)) old table.own →
+        left m a ≡ step (sized sizes m) p old) ⌝ }
 {
-    let curr = old.lost.curr;
-    let own = old.kept.node;
     let pending = old.lost.pending;
     let recovering = old.lost.recovering;
-    let read = access::read_link(links, sizes, words::in_use(curr, sizes.count), curr);
-    let order = words::compare(addresses, curr, old.kept.address);
     let ends = search_ends(
         recovering,
-        curr.0 == own.0,
+        old.lost.curr.0 == old.kept.node.0,
         old.kept.kind == INSERTS,
         order.equal,
         pending,
     );
     let passes = read.mark | order.below;
+    let fits = read.accepted & (passes | !recovering | own_usable);
     let place = answers::pick(read.mark, 2, answers::pick(order.below, 1, ends.place));
     let answer = answers::pick(passes, pending, ends.answer);
-    let own_fits = passes | !recovering | access::own_in_use(own, sizes.count);
-    let fits = read.accepted & own_fits;
     let left = old.scans(
-        answers::node(fits, read.target, old.lost.succ),
+        either(fits, read.target, old.lost.succ),
         fits & !read.mark & order.below,
         answers::pick(fits, place, old.lost.place),
         answers::pick(fits, answer, pending),
@@ -103,35 +111,40 @@ pub(crate) fn row_1(addresses: &[u32], links: &[u32], sizes: Sizes, old: Record)
     answers::judged(fits, sizes, left)
 }
 
+// Place 1: read curr's link; on to the next node, or the search ends. An address is looked at only where the link was accepted.
+pub(crate) fn row_1(addresses: &[u32], links: &[u32], sizes: Sizes, old: Record) -> Acted
+    requires { ⌜ StandsAt 1 old ⌝ }
+    ensures { λ a. ⌜ ((m : Memory) → (p : spec.Process) → left (links≔ (now (links .entry)) (addresses≔ (now (addresses .entry)) m)) a ≡ step (sized sizes (links≔ (now (links .entry)) (addresses≔ (now (addresses .entry)) m))) p old) ⌝ }
+{
+    let read = access::read_link(links, sizes, old, Field::Curr);
+    let order = words::compare(
+        addresses,
+        either(read.accepted, old.lost.curr, HEAD),
+        old.kept.address,
+    );
+    scan(
+        sizes,
+        old,
+        read,
+        order,
+        access::usable(links, sizes, old, Field::Own),
+    )
+}
+
 // Place 2: swap pred's link from curr to succ.
 pub(crate) fn row_2(links: &mut [u32], sizes: Sizes, old: Record) -> Acted
     requires { ⌜ StandsAt 2 old ⌝ }
     requires { ⌜ Within sizes ⌝ }
-    ensures { λ a. ⌜ ((addresses deleters : List ℕ) → (p : spec.Process) → left addresses (now (links .exit)) deleters a ≡
-        stepped addresses (now (links .entry)) deleters sizes p old) ⌝ }
+    ensures { λ a. ⌜ ((m : Memory) → (p : spec.Process) → left (links≔ (now (links .exit)) m) a ≡ step (sized sizes (links≔ (now (links .entry)) m)) p old) ⌝ }
 {
-    let pred = old.lost.pred;
-    let curr = old.lost.curr;
-    let succ = old.lost.succ;
-    let accepted = words::in_use(pred, sizes.count)
-        & words::in_use(curr, sizes.count)
-        & words::in_use(succ, sizes.count);
-    let wrote = access::swap_link(links, accepted, pred, curr, succ, false);
-    let after = answers::either(wrote, old.unlinked(), old.goes(0));
-    answers::turn(accepted, sizes, old, after)
-}
-
-// Places 0 to 2.
-pub(crate) fn rows(addresses: &[u32], links: &mut [u32], sizes: Sizes, old: Record) -> Acted
-    requires { ⌜ StandsIn 0 2 old ⌝ }
-    requires { ⌜ Within sizes ⌝ }
-    ensures { λ a. ⌜ ((deleters : List ℕ) → (p : spec.Process) → left (now (addresses .entry)) (now (links .exit)) deleters a ≡
-        stepped (now (addresses .entry)) (now (links .entry)) deleters sizes p old) ⌝ }
-{
-    let place = old.lost.place;
-    match place {
-        0 => row_0(links, sizes, old),
-        1 => row_1(addresses, links, sizes, old),
-        _ => row_2(links, sizes, old),
-    }
+    let swap = access::swap_link(
+        links,
+        sizes,
+        old,
+        Field::Pred,
+        Field::Curr,
+        Field::Succ,
+        false,
+    );
+    answers::swapped(swap, sizes, old, old.unlinked(), old.goes(0))
 }

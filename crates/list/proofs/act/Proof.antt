@@ -1,30 +1,17 @@
--- What was found of sizes, process and status is what the event is judged by.
+-- What was judged of sizes, process and status decides what is done. Rests on Judged.
 use Rattle.list.proofs.Judged.{refuses, acts, able}
 use borrow.Author.Needs.{needs}
 use Rattle.list.proofs.act.Statement.{statement}
 use Rattle.list.proofs.act.Tie as tie
+use Rattle.list.proofs.Judged.{refuses, acts, able}
 
-tables-fit-requires : tie.Need-tables-fit-requires
-tables-fit-requires c κs = search needs
-
-process-of-requires : tie.Need-process-of-requires
-process-of-requires c κs = search needs
-
-status-needed-requires : tie.Need-status-needed-requires
-status-needed-requires c κs = search needs
-
-first-refusal-requires : tie.Need-first-refusal-requires
-first-refusal-requires c κs = search needs
+judge-requires : tie.Need-judge-requires
+judge-requires c κs = search needs
 
 does-requires : tie.Need-does-requires
 does-requires c κs =
-    let judged = c .before .before .before .before in
-    able _ _ _ _ (judged .before .before .before .before .before .before .before .before .before .before .before .before .before .args .«record»)
-    (judged .before .before .before .before .before .before .before .before .before .before .before .before .before .args .event) _ _ _ _
-    (judged .before .before .before .before .before .before .tables-fit .ensures)
-    (judged .before .before .before .before .before .process-of .ensures)
-    (judged .before .before .status-needed .ensures) (judged .first-refusal .ensures)
-    (c .before .before .before .if1 .taken)
+    let judged = c .before .before .before in
+    able _ _ _ _ _ _ _ (judged .before .judge .ensures) (judged .if1 .taken)
 
 same-length : tie.Need-same-length
 same-length c = search needs
@@ -37,14 +24,10 @@ same-length-3 c = search needs
 
 returns : tie.Need-returns
 returns c =
-    let judged = c .before .before .before .before .before .before .before .before .before .before .before in
-    acts _ _ _ _ (judged .before .before .before .before .before .before .before .before .before .before .before .before .before .args .«record»)
-    (judged .before .before .before .before .before .before .before .before .before .before .before .before .before .args .event) _ _ _ _
-    (judged .before .before .before .before .before .before .tables-fit .ensures)
-    (judged .before .before .before .before .before .process-of .ensures)
-    (judged .before .before .status-needed .ensures) (judged .first-refusal .ensures)
-    (c .before .before .before .before .before .before .before .before .before .before .if1 .taken) _
-    (c .before .before .before .before .before .before .does .ensures)
+    let done = c .before .before .before in
+    let did = done .before .before .before in
+    let judged = did .before .before .before in
+    acts _ _ _ _ _ _ _ _ (judged .before .before .judge .ensures) (judged .before .if1 .taken) _ (did .does .ensures)
 
 refused-requires : tie.Need-refused-requires
 refused-requires c κs = search needs
@@ -59,23 +42,13 @@ same-length-6 : tie.Need-same-length-6
 same-length-6 c = search needs
 
 returns-2 : tie.Need-returns-2
-returns-2 c =
-    let judged = c .before .before in
-    refuses _ _ _ _ (judged .before .before .before .before .before .before .before .before .before .before .before .before .before .args .«record»)
-    (judged .before .before .before .before .before .before .before .before .before .before .before .before .before .args .event) _ _ _ _
-    (judged .before .before .before .before .before .before .tables-fit .ensures)
-    (judged .before .before .before .before .before .process-of .ensures)
-    (judged .before .before .status-needed .ensures) (judged .first-refusal .ensures)
-    (c .before .if1 .left) _ (c .refused .ensures)
+returns-2 c = refuses _ _ _ _ _ _ _ _ (c .before .before .judge .ensures) (c .before .if1 .left) _ (c .refused .ensures)
 
 pub act-spec : {M : Type 1} → statement M
 act-spec =
     tie.close
     (tie.spec
-    tables-fit-requires
-    process-of-requires
-    status-needed-requires
-    first-refusal-requires
+    judge-requires
     does-requires
     same-length
     same-length-2

@@ -26,8 +26,11 @@ unfolding inUse
 tail-in-use {m} o = lt-ltb 1 (m .count) (omega (arith, o .least))
 
 -- a node in use is one of the stated nodes
+pub among-stated : (m : Memory) → m .count ≤ m .nodes → (n : Node) → inUse m n ≡ true → n .0 < m .nodes
+among-stated m most n u = omega (arith, used-below m n u, most)
+
 pub within : {m : Memory} → Room m → (n : Node) → inUse m n ≡ true → n .0 < m .nodes
-within {m} o n u = omega (arith, used-below m n u, o .most)
+within {m} o n u = among-stated m (o .most) n u
 
 count-written : (f : Write) (m : Memory) → written f m .count ≡ m .count
 unfolding written

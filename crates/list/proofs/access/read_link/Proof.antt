@@ -1,27 +1,26 @@
--- Target, mark and use are those of the word read.
-use Rattle.list.specs.Parts.{readOf}
+-- A word is read where its node is usable, and none where it is not. Rests on Accessed.
+use Rattle.list.proofs.Accessed.{link-is-read, link-not-read}
 use borrow.Author.Needs.{needs}
 use Rattle.list.proofs.access.read_link.Statement.{statement}
 use Rattle.list.proofs.access.read_link.Tie as tie
+use Rattle.list.proofs.Accessed.{link-is-read, link-not-read}
+use Rattle.list.specs.Accesses.{linkRead}
 
-word-at-requires : tie.Need-word-at-requires
-word-at-requires c κs = search needs
+usable-requires : tie.Need-usable-requires
+usable-requires c κs = search needs
 
-target-of-requires : tie.Need-target-of-requires
-target-of-requires c κs = search needs
+node-of-requires : tie.Need-node-of-requires
+node-of-requires c κs = search needs
 
-in-use-requires : tie.Need-in-use-requires
-in-use-requires c κs = search needs
-
-is-marked-requires : tie.Need-is-marked-requires
-is-marked-requires c κs = search needs
+link-met-requires : tie.Need-link-met-requires
+link-met-requires c κs = search needs
 
 returns : tie.Need-returns
-unfolding readOf
-returns c =
-    rw (c .is-marked .ensures, c .before .in-use .ensures, c .before .before .target-of .ensures, c .before .before .before .word-at .ensures)
+returns c m = search (needs, link-is-read, c .link-met .ensures, c .before .before .before .usable .ensures)
+
+returns-2 : tie.Need-returns-2
+returns-2 c m = search (needs, link-not-read, c .before .usable .ensures)
 
 pub read-link-spec : {M : Type 1} → statement M
 read-link-spec =
-    tie.close
-    (tie.spec word-at-requires target-of-requires in-use-requires is-marked-requires returns)
+    tie.close (tie.spec usable-requires node-of-requires link-met-requires returns returns-2)

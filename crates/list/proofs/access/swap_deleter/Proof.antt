@@ -1,29 +1,47 @@
--- A swap where the row is accepted, and none where it is not.
-use Rattle.basics.proofs.Conds.{conds}
-use Rattle.list.proofs.Tested.{where-accepted}
-use Rattle.list.specs.Parts.{swapWhere}
+-- A swap where the node is usable, and none where it is not. Rests on Accessed.
+use Rattle.list.proofs.Accessed.{deleter-swapped, deleter-stays}
 use borrow.Author.Needs.{needs}
 use Rattle.list.proofs.access.swap_deleter.Statement.{statement}
 use Rattle.list.proofs.access.swap_deleter.Tie as tie
+use Rattle.list.proofs.Accessed.{deleter-swapped, deleter-stays}
+use Rattle.list.specs.Accesses.{deleterSwap}
+
+usable-requires : tie.Need-usable-requires
+usable-requires c κs = search needs
 
 deleter-word-requires : tie.Need-deleter-word-requires
 deleter-word-requires c κs = search needs
 
-swap-requires : tie.Need-swap-requires
-swap-requires c κs = search needs
+node-of-requires : tie.Need-node-of-requires
+node-of-requires c κs = search needs
+
+swap-at-requires : tie.Need-swap-at-requires
+swap-at-requires c κs = search needs
 
 same-length : tie.Need-same-length
 same-length c = search needs
 
 returns : tie.Need-returns
-returns c =
-    search (needs, where-accepted)
+returns c m =
+    let made = c .before .before in
+    let tested = made .before .before .before .before in
+    search (needs, deleter-swapped, tested .before .usable .ensures)
+
+no-swap-requires : tie.Need-no-swap-requires
+no-swap-requires c κs = search needs
 
 returns-2 : tie.Need-returns-2
-unfolding swapWhere
-returns-2 c =
-    search (needs, conds)
+returns-2 c m = search (needs, deleter-stays, c .before .before .usable .ensures)
 
 pub swap-deleter-spec : {M : Type 1} → statement M
 swap-deleter-spec =
-    tie.close (tie.spec deleter-word-requires swap-requires same-length returns returns-2)
+    tie.close
+    (tie.spec
+    usable-requires
+    deleter-word-requires
+    node-of-requires
+    swap-at-requires
+    same-length
+    returns
+    no-swap-requires
+    returns-2)

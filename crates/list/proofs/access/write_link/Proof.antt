@@ -1,9 +1,22 @@
--- A write where the row is accepted, and none where it is not.
-use mathlib.Core.Bool.{false}
-use Rattle.list.proofs.Tested.{link-written}
+-- A write where the nodes are usable, and none where they are not. Rests on Accessed.
+use Rattle.list.proofs.Accessed.{link-written, link-stays}
 use borrow.Author.Needs.{needs}
 use Rattle.list.proofs.access.write_link.Statement.{statement}
 use Rattle.list.proofs.access.write_link.Tie as tie
+use Rattle.list.proofs.Accessed.{link-written, link-stays}
+use Rattle.list.proofs.Accessed.{link-written, link-stays}
+
+usable-requires : tie.Need-usable-requires
+usable-requires c κs = search needs
+
+usable-requires-2 : tie.Need-usable-requires-2
+usable-requires-2 c κs = search needs
+
+node-of-requires : tie.Need-node-of-requires
+node-of-requires c κs = search needs
+
+node-of-requires-2 : tie.Need-node-of-requires-2
+node-of-requires-2 c κs = search needs
 
 link-word-requires : tie.Need-link-word-requires
 link-word-requires c κs = search needs
@@ -15,15 +28,28 @@ same-length : tie.Need-same-length
 same-length c = search needs
 
 returns : tie.Need-returns
-returns c =
-    link-written _ (c .before .before .before .before .before .before .before .args .links .now)
-    (c .before .before .before .before .before .before .before .args .n) _ _ false (c .before .before .before .before .before .before .before .pre)
-    (c .before .before .before .before .before .if1 .taken) _ (c .before .before .before .before .link-word .ensures) _
-    (c .before .before .write .ensures)
+returns c m =
+    let made = c .before .before in
+    let tested = made .before .before .before .before .before in
+    search (needs, link-written, tested .before .usable2 .ensures, tested .before .before .before .usable .ensures)
+
+same-length-2 : tie.Need-same-length-2
+same-length-2 c = search needs
 
 returns-2 : tie.Need-returns-2
-returns-2 c = search needs
+returns-2 c m = search (needs, link-stays, c .before .usable2 .ensures, c .before .before .before .usable .ensures)
 
 pub write-link-spec : {M : Type 1} → statement M
 write-link-spec =
-    tie.close (tie.spec link-word-requires write-requires same-length returns returns-2)
+    tie.close
+    (tie.spec
+    usable-requires
+    usable-requires-2
+    node-of-requires
+    node-of-requires-2
+    link-word-requires
+    write-requires
+    same-length
+    returns
+    same-length-2
+    returns-2)

@@ -1,13 +1,11 @@
--- Place 5 writes the record's node.
-use mathlib.Core.Path.{refl}
-use Rattle.list.proofs.Turns.{write-node}
-use Rattle.table.specs.Places.{row, placeOf, curr}
+-- Place 5 writes a field of the record. Rests on ByPlace.
+use Rattle.list.proofs.ByPlace.{row-5}
 use borrow.Author.Needs.{needs}
 use Rattle.list.proofs.delete.row_5.Statement.{statement}
 use Rattle.list.proofs.delete.row_5.Tie as tie
 
-in-use-requires : tie.Need-in-use-requires
-in-use-requires c κs = search needs
+usable-requires : tie.Need-usable-requires
+usable-requires c κs = search needs
 
 takes-curr-requires : tie.Need-takes-curr-requires
 takes-curr-requires c κs = search needs
@@ -16,10 +14,7 @@ turn-requires : tie.Need-turn-requires
 turn-requires c κs = search needs
 
 returns : tie.Need-returns
-unfolding row placeOf
-returns c addresses links deleters p =
-    rw (c .turn .ensures, c .before .takes-curr .ensures, c .before .before .in-use .ensures)
-    (write-node addresses links deleters _ p _ 5 (c .before .before .before .pre) curr _ refl)
+returns c m p = search (needs, row-5 m, c .before .before .usable .ensures)
 
 pub row-5-spec : {M : Type 1} → statement M
-row-5-spec = tie.close (tie.spec in-use-requires takes-curr-requires turn-requires returns)
+row-5-spec = tie.close (tie.spec usable-requires takes-curr-requires turn-requires returns)

@@ -1,13 +1,8 @@
--- Place 9 swaps a deleter.
-use mathlib.Core.Path.{refl}
-use Rattle.list.proofs.Turns.{swapped-deleter}
-use Rattle.table.specs.Places.{row, placeOf, curr}
+-- Place 9 swaps a deleter. Rests on ByPlace.
+use Rattle.list.proofs.ByPlace.{row-9}
 use borrow.Author.Needs.{needs}
 use Rattle.list.proofs.delete.row_9.Statement.{statement}
 use Rattle.list.proofs.delete.row_9.Tie as tie
-
-in-use-requires : tie.Need-in-use-requires
-in-use-requires c κs = search needs
 
 swap-deleter-requires : tie.Need-swap-deleter-requires
 swap-deleter-requires c κs = search needs
@@ -22,19 +17,10 @@ same-length : tie.Need-same-length
 same-length c = search needs
 
 returns : tie.Need-returns
-unfolding row placeOf
-returns c addresses links =
-    rw (c .turn .ensures, c .before .goes .ensures)
-    (swapped-deleter addresses links _ _ _ _ 9 (c .before .before .before .before .before .before .before .before .before .pre .0) curr _ _ _ _ refl
-    (c .before .before .before .before .before .before .in-use .ensures) (c .before .before .before .before .swap-deleter .ensures))
+returns c m =
+    let made = c .before .before in
+    search (needs, row-9 m, made .before .before .swap-deleter .ensures)
 
 pub row-9-spec : {M : Type 1} → statement M
 row-9-spec =
-    tie.close
-    (tie.spec
-    in-use-requires
-    swap-deleter-requires
-    goes-requires
-    turn-requires
-    same-length
-    returns)
+    tie.close (tie.spec swap-deleter-requires goes-requires turn-requires same-length returns)

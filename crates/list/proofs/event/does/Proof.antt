@@ -1,17 +1,18 @@
--- What each kind does.
-use Rattle.list.proofs.Judged.{kinds, stepping}
+-- Each action does what the place table says. Rests on Judged.
+use Rattle.list.proofs.Judged.{inserts, deletes, finds, steps, stops, restarts}
 use borrow.Author.Needs.{needs}
 use Rattle.list.proofs.event.does.Statement.{statement}
 use Rattle.list.proofs.event.does.Tie as tie
+use Rattle.list.proofs.Judged.{inserts, deletes, finds, steps, stops, restarts}
 
-enum-known-event : tie.Need-enum-known-event
-enum-known-event c = search needs
+enum-known-action : tie.Need-enum-known-action
+enum-known-action c = search needs
 
 insert-requires : tie.Need-insert-requires
 insert-requires c κs = search needs
 
-enum-known-event-2 : tie.Need-enum-known-event-2
-enum-known-event-2 c = search needs
+enum-known-action-2 : tie.Need-enum-known-action-2
+enum-known-action-2 c = search needs
 
 request-requires : tie.Need-request-requires
 request-requires c κs = search needs
@@ -19,8 +20,8 @@ request-requires c κs = search needs
 accepted-requires : tie.Need-accepted-requires
 accepted-requires c κs = search needs
 
-enum-known-event-3 : tie.Need-enum-known-event-3
-enum-known-event-3 c = search needs
+enum-known-action-3 : tie.Need-enum-known-action-3
+enum-known-action-3 c = search needs
 
 request-requires-2 : tie.Need-request-requires-2
 request-requires-2 c κs = search needs
@@ -28,15 +29,14 @@ request-requires-2 c κs = search needs
 accepted-requires-2 : tie.Need-accepted-requires-2
 accepted-requires-2 c κs = search needs
 
-enum-known-event-4 : tie.Need-enum-known-event-4
-enum-known-event-4 c = search needs
-
-step-requires : tie.Need-step-requires
-step-requires c κs =
-    search (needs, stepping)
-
 enum-told : tie.Need-enum-told
 enum-told c = search needs
+
+step-requires : tie.Need-step-requires
+step-requires c κs = search needs
+
+enum-told-2 : tie.Need-enum-told-2
+enum-told-2 c = search needs
 
 goes-down-requires : tie.Need-goes-down-requires
 goes-down-requires c κs = search needs
@@ -44,8 +44,8 @@ goes-down-requires c κs = search needs
 accepted-requires-3 : tie.Need-accepted-requires-3
 accepted-requires-3 c κs = search needs
 
-enum-told-2 : tie.Need-enum-told-2
-enum-told-2 c = search needs
+enum-told-3 : tie.Need-enum-told-3
+enum-told-3 c = search needs
 
 restarts-requires : tie.Need-restarts-requires
 restarts-requires c κs = search needs
@@ -64,15 +64,15 @@ same-length-3 c = search needs
 
 returns : tie.Need-returns
 returns c =
-    search (needs, kinds)
+    let made = c .before .before .before in
+    let inserted = made .before .before .before in
+    search (needs, inserts, inserted .insert .ensures)
 
 returns-2 : tie.Need-returns-2
-returns-2 c =
-    search (needs, kinds)
+returns-2 c = search (needs, deletes)
 
 returns-3 : tie.Need-returns-3
-returns-3 c =
-    search (needs, kinds)
+returns-3 c = search (needs, finds)
 
 same-length-4 : tie.Need-same-length-4
 same-length-4 c = search needs
@@ -85,34 +85,33 @@ same-length-6 c = search needs
 
 returns-4 : tie.Need-returns-4
 returns-4 c =
-    search (needs, kinds)
+    let stepped = c .before .before in
+    search (needs, steps, stepped .before .before .step .ensures)
 
 returns-5 : tie.Need-returns-5
-returns-5 c =
-    search (needs, kinds)
+returns-5 c = search (needs, stops)
 
 returns-6 : tie.Need-returns-6
-returns-6 c =
-    search (needs, kinds)
+returns-6 c = search (needs, restarts)
 
 pub does-spec : {M : Type 1} → statement M
 does-spec =
     tie.close
     (tie.spec
-    enum-known-event
+    enum-known-action
     insert-requires
-    enum-known-event-2
+    enum-known-action-2
     request-requires
     accepted-requires
-    enum-known-event-3
+    enum-known-action-3
     request-requires-2
     accepted-requires-2
-    enum-known-event-4
-    step-requires
     enum-told
+    step-requires
+    enum-told-2
     goes-down-requires
     accepted-requires-3
-    enum-told-2
+    enum-told-3
     restarts-requires
     accepted-requires-4
     same-length

@@ -1,30 +1,21 @@
--- Refusal 3, or a node given out.
-use Rattle.list.proofs.Judged.{full, gives-out}
+-- Refusal 3, or a node given out. Rests on Judged.
+use Rattle.list.proofs.Judged.{full, takes}
 use borrow.Author.Needs.{needs}
 use Rattle.list.proofs.event.insert.Statement.{statement}
 use Rattle.list.proofs.event.insert.Tie as tie
-
-add-t11 : tie.Need-add-t11
-add-t11 c = search needs
+use Rattle.list.proofs.Judged.{full, takes}
 
 refused-requires : tie.Need-refused-requires
 refused-requires c κs = search needs
 
 returns : tie.Need-returns
-returns c =
-    search (needs, full)
+returns c p = full _ _ _ _ p _ _ _ (c .before .if1 .taken) (c .refused .ensures)
 
-link-word-requires : tie.Need-link-word-requires
-link-word-requires c κs = search needs
+give-out-requires : tie.Need-give-out-requires
+give-out-requires c κs = search needs
 
-write-requires : tie.Need-write-requires
-write-requires c κs = search needs
-
-write-requires-2 : tie.Need-write-requires-2
-write-requires-2 c κs = search needs
-
-write-requires-3 : tie.Need-write-requires-3
-write-requires-3 c κs = search needs
+one-more-requires : tie.Need-one-more-requires
+one-more-requires c κs = search needs
 
 request-requires : tie.Need-request-requires
 request-requires c κs = search needs
@@ -33,8 +24,7 @@ accepted-requires : tie.Need-accepted-requires
 accepted-requires c κs = search needs
 
 same-length : tie.Need-same-length
-same-length c =
-    c .before .before .before .before .before .before .before .before .before .before .before .addresses .given
+same-length c = search needs
 
 same-length-2 : tie.Need-same-length-2
 same-length-2 c = search needs
@@ -43,25 +33,22 @@ same-length-3 : tie.Need-same-length-3
 same-length-3 c = search needs
 
 returns-2 : tie.Need-returns-2
-returns-2 c =
-    gives-out _ _ _ _ _ _ _ _ _ _ _ _ _
-    (c .before .before .before .before .before .before .before .before .before .before .before .before .write .ensures)
-    (c .before .before .before .before .before .before .before .before .write2 .ensures) (c .before .before .before .before .write3 .ensures)
-    (c .before .before .before .before .before .before .before .before .before .before .before .before .before .before .link-word .ensures)
-    (c .before .before .before .before .before .before .before .before .before .before .before .before .before .before .before .if1 .left)
-    (c .accepted .ensures) (c .before .request .ensures)
+returns-2 c p =
+    let more = c .before .before in
+    let given = more .before .before .before in
+    let gave = given .before .before .before .before in
+    let tested = gave .before .before .before .before in
+    takes _ _ _ _ p _ _ _ _ _ _ _ _ (gave .give-out .ensures) (tested .if1 .left) (more .one-more .ensures) (c .accepted .ensures)
+    (c .before .request .ensures)
 
 pub insert-spec : {M : Type 1} → statement M
 insert-spec =
     tie.close
     (tie.spec
-    add-t11
     refused-requires
     returns
-    link-word-requires
-    write-requires
-    write-requires-2
-    write-requires-3
+    give-out-requires
+    one-more-requires
     request-requires
     accepted-requires
     same-length

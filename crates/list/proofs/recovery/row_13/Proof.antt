@@ -1,8 +1,9 @@
--- Place 13 meets no word.
-use Rattle.list.proofs.Ends.{resumed}
+-- Place 13 reads the record. Rests on ByPlace.
+use Rattle.list.proofs.ByPlace.{row-13}
 use borrow.Author.Needs.{needs}
 use Rattle.list.proofs.recovery.row_13.Statement.{statement}
 use Rattle.list.proofs.recovery.row_13.Tie as tie
+use Rattle.list.proofs.ByPlace.{row-13}
 
 pick-requires : tie.Need-pick-requires
 pick-requires c κs = search needs
@@ -26,17 +27,14 @@ accepted-requires : tie.Need-accepted-requires
 accepted-requires c κs = search needs
 
 returns : tie.Need-returns
-returns c addresses links deleters p =
-    rw (
-      c .accepted .ensures,
-      c .before .goes-with .ensures,
-      c .before .before .pick5 .ensures,
-      c .before .before .before .pick4 .ensures,
-      c .before .before .before .before .pick3 .ensures,
-      c .before .before .before .before .before .pick2 .ensures,
-      c .before .before .before .before .before .before .pick .ensures,
-    )
-    (resumed addresses links deleters _ p _ (c .before .before .before .before .before .before .before .before .before .before .before .before .pre))
+returns c m p =
+    let told = c .before .before in
+    let placed = told .before .before in
+    let looks = placed .before .before in
+    let known = looks .before .before .before in
+    let start = known .before .before .before in
+    row-13 m _ p _ _ _ _ _ _ _ _ (start .pre) (looks .pick .ensures) (placed .before .pick2 .ensures) (placed .pick3 .ensures)
+    (told .before .pick4 .ensures) (told .pick5 .ensures) (c .before .goes-with .ensures) (c .accepted .ensures)
 
 pub row-13-spec : {M : Type 1} → statement M
 row-13-spec =

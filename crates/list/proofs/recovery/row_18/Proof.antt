@@ -1,7 +1,5 @@
--- Place 18 meets no word.
-use mathlib.Core.Path.{refl}
-use Rattle.list.proofs.Turns.{own-record}
-use Rattle.table.specs.Places.{row, placeOf}
+-- Place 18 writes the result. Rests on ByPlace.
+use Rattle.list.proofs.ByPlace.{row-18}
 use borrow.Author.Needs.{needs}
 use Rattle.list.proofs.recovery.row_18.Statement.{statement}
 use Rattle.list.proofs.recovery.row_18.Tie as tie
@@ -13,10 +11,7 @@ accepted-requires : tie.Need-accepted-requires
 accepted-requires c κs = search needs
 
 returns : tie.Need-returns
-unfolding row placeOf
-returns c addresses links deleters p =
-    rw (c .accepted .ensures, c .before .keeps-answer .ensures)
-    (own-record addresses links deleters _ p _ 18 (c .before .before .pre) _ refl)
+returns c m p = search (needs, row-18)
 
 pub row-18-spec : {M : Type 1} → statement M
 row-18-spec = tie.close (tie.spec keeps-answer-requires accepted-requires returns)

@@ -1,29 +1,11 @@
--- Place 2 swaps a link.
-use mathlib.Core.Path.{refl}
-use mathlib.Core.Bool.{cond}
-use Rattle.record.specs.Record.{_▸_, curr≔, to}
-use Rattle.list.proofs.Turns.{swapped-link}
-use Rattle.list.proofs.Tested.{three-small, plain}
-use Rattle.table.specs.Places.{row, placeOf, pred}
+-- Place 2 swaps a link. Rests on ByPlace.
+use Rattle.list.proofs.ByPlace.{row-2}
 use borrow.Author.Needs.{needs}
 use Rattle.list.proofs.search.row_2.Statement.{statement}
 use Rattle.list.proofs.search.row_2.Tie as tie
 
-in-use-requires : tie.Need-in-use-requires
-in-use-requires c κs = search needs
-
-in-use-requires-2 : tie.Need-in-use-requires-2
-in-use-requires-2 c κs = search needs
-
-in-use-requires-3 : tie.Need-in-use-requires-3
-in-use-requires-3 c κs = search needs
-
 swap-link-requires : tie.Need-swap-link-requires
-swap-link-requires c κs =
-    three-small _ (c .before .before .before .before .before .before .before .before .pre .1) _ _ (c .before .before .before .in-use .result)
-    (c .before .before .in-use2 .result) _
-    (plain _ _ _ (c .before .before .in-use2 .ensures))
-    (plain _ _ _ (c .before .in-use3 .ensures))
+swap-link-requires c κs = search needs
 
 unlinked-requires : tie.Need-unlinked-requires
 unlinked-requires c κs = search needs
@@ -31,40 +13,24 @@ unlinked-requires c κs = search needs
 goes-requires : tie.Need-goes-requires
 goes-requires c κs = search needs
 
-either-requires : tie.Need-either-requires
-either-requires c κs = search needs
-
-turn-requires : tie.Need-turn-requires
-turn-requires c κs = search needs
+swapped-requires : tie.Need-swapped-requires
+swapped-requires c κs = search needs
 
 same-length : tie.Need-same-length
 same-length c = search needs
 
 returns : tie.Need-returns
-unfolding row placeOf
-returns c addresses deleters p =
-    rw (c .turn .ensures, c .before .either .ensures, c .before .before .goes .ensures, c .before .before .before .unlinked .ensures)
-    (swapped-link addresses _ deleters _ p _ 2
-    (c .before .before .before .before .before .before .before .before .before .before .before .before .before .before .before .pre .0) pred _ _ _ _
-    (λ r b. cond b (r ▸ curr≔ (r .lost .succ) ▸ to 1) (r ▸ to 0)) _ _ _ refl (λ b. refl)
-    (rw (
-      c .before .before .before .before .before .before .before .before .in-use3 .ensures,
-      c .before .before .before .before .before .before .before .before .before .in-use2 .ensures,
-      c .before .before .before .before .before .before .before .before .before .before .in-use .ensures,
-    ))
-    (c .before .before .before .before .before .before .swap-link .ensures))
+returns c m p =
+    let made = c .before .before .before in
+    search (needs, row-2 m, made .before .before .swap-link .ensures)
 
 pub row-2-spec : {M : Type 1} → statement M
 row-2-spec =
     tie.close
     (tie.spec
-    in-use-requires
-    in-use-requires-2
-    in-use-requires-3
     swap-link-requires
     unlinked-requires
     goes-requires
-    either-requires
-    turn-requires
+    swapped-requires
     same-length
     returns)

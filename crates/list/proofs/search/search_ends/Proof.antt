@@ -1,6 +1,6 @@
 -- The ends, one by one.
 use Rattle.table.specs.Places.{searchEnds}
-use Rattle.list.specs.Parts.{EndsAt}
+use Rattle.list.specs.Rows.{EndsAt}
 use Rattle.list.proofs.search.search_ends.Statement.{statement}
 use Rattle.list.proofs.search.search_ends.Tie as tie
 

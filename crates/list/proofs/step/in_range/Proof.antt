@@ -1,6 +1,6 @@
 -- The ranges, by the place.
 use borrow.Author.Needs.{needs}
-use Rattle.list.proofs.Places.{first-places, middle-places, last-places}
+use Rattle.list.proofs.InRange.{first-places, middle-places, last-places}
 use Rattle.list.proofs.step.in_range.Statement.{statement}
 use Rattle.list.proofs.step.in_range.Tie as tie
 

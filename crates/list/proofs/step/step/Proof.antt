@@ -1,5 +1,5 @@
--- The row, or refusal 8.
-use Rattle.list.proofs.Places.{in-range, refused-8}
+-- The row, or refusal 8. Rests on InRange.
+use Rattle.list.proofs.InRange.{in-range, refused-8}
 use borrow.Author.Needs.{needs}
 use Rattle.list.proofs.step.step.Statement.{statement}
 use Rattle.list.proofs.step.step.Tie as tie
@@ -8,10 +8,10 @@ in-range-requires : tie.Need-in-range-requires
 in-range-requires c κs = search needs
 
 row-requires : tie.Need-row-requires
-row-requires c κs = (
-  in-range _ _ (c .before .before .before .in-range .ensures) (c .before .before .if1 .taken),
-  c .before .before .before .before .before .before .before .pre,
-)
+row-requires c κs =
+    let ranged = c .before .before .before in
+    let start = ranged .before .before .before in
+    (in-range _ _ (ranged .in-range .ensures) (c .before .before .if1 .taken), start .before .pre)
 
 same-length : tie.Need-same-length
 same-length c = search needs
@@ -26,8 +26,7 @@ refused-requires : tie.Need-refused-requires
 refused-requires c κs = search needs
 
 returns-2 : tie.Need-returns-2
-returns-2 c =
-    search (needs, refused-8)
+returns-2 c m = search (needs, refused-8)
 
 pub step-spec : {M : Type 1} → statement M
 step-spec =
