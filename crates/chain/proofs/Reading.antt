@@ -9,18 +9,21 @@ use native.Mathlib.Numerals.{add-one}
 use native.Mathlib.Omega.{arith}
 use lib.ListN.{length, getD, set, take, drop, length-map, length-drop, length-set}
 use lib.Seq.{length-take-le, take-all, take-add, drop-drop, getD-drop, paste-suc}
-use Rattle.record.specs.Record.{headNode}
-use Rattle.record.specs.declared.Node.{Node}
-use Rattle.table.specs.Words.{Memory, memory, addressAt, linkAt, rank, aboveAll}
-use Rattle.table.specs.Events.{tablesFit}
-use Rattle.table.specs.Chain.{walk, chain, chainAddresses}
 use Rattle.basics.proofs.Tests.{if-eq}
-use Rattle.chain.specs.declared.Met.{Met}
-use Rattle.chain.specs.declared.Met.the-variants.{Next}
+use Rattle.record.specs.Record.{headNode, tailNode, address}
+use Rattle.record.specs.declared.Node.{Node}
+use Rattle.record.specs.declared.Address.{Address}
+use Rattle.table.specs.Words.{Memory, addresses≔, links≔, addressAt, rank, addressLimit, aboveAll}
+use Rattle.table.specs.Events.{tablesFit}
+use Rattle.table.specs.Chain.{ahead, walk, chain, chainAddresses}
+use Rattle.words.specs.declared.Sizes.{Sizes}
+use Rattle.words.specs.LentMemory.{lentMemory, sized}
+use Rattle.chain.specs.declared.Ahead.{Ahead}
+use Rattle.chain.specs.declared.Ahead.the-variants.{Next}
 use Rattle.chain.specs.declared.Keys.the-variants.{Read, Refused}
-use Rattle.chain.specs.Walking.{onwardFrom}
-use Rattle.chain.specs.Keys.{Left, left, lastOf, readKeys, keysOf}
-use Rattle.chain.proofs.Walks.{met-next, walk-goes, walk-stops, Stops, walk-no-deleters}
+use Rattle.chain.specs.Walking.{aheadIn}
+use Rattle.chain.specs.Keys.{BufferLeft, bufferLeft, numbers, lastOf, readKeys, keysOf}
+use Rattle.chain.proofs.Walks.{ahead-onto, walk-goes, walk-stops, Stops, told-next, told-stops}
 
 -- ---- lists: what is known of l where a part of it begins with x
 
@@ -39,43 +42,47 @@ drop-map f zero l = refl
 drop-map f (suc i) [] = refl
 drop-map f (suc i) (x ∷ xs) = drop-map f i xs
 
+map-map : {A B C : Type 0} (g : B → C) (f : A → B) (l : List A) → map g (map f l) ≡ map (λ x. g (f x)) l
+map-map g f [] = refl
+map-map g f (x ∷ xs) = ap (λ ys. g (f x) ∷ ys) (map-map g f xs)
+
 lastOf-more : (n : Node) (xs : List Node) (x : Node) → lastOf n (xs ++ (x ∷ [])) ≡ x
 lastOf-more n [] x = refl
 lastOf-more n (y ∷ ys) x = lastOf-more y ys x
 
 -- ---- where the reading stands
 
+-- the chain's addresses as the buffer gets them: one for each node
+abbrev keysOn : Memory → List ℕ
+keysOn m = numbers (chainAddresses m)
+
+keys-on : (m : Memory) → keysOn m ≡ map (λ n. addressAt m n) (chain m)
+unfolding chainAddresses
+keys-on m = map-map (λ (a : Address). a .0) (λ n. address (addressAt m n)) (chain m)
+
+keys-long : (m : Memory) → length (keysOn m) ≡ length (chain m)
+keys-long m = ap length (keys-on m) ∙ length-map (chain m) (λ n. addressAt m n)
+
 -- so many addresses of the chain are in the buffer, whose words were before; the walk stands on the node that has the last of them
-pub record Walked (m : Memory) (before buffer : List ℕ) (from : Node) (read : ℕ) : Type 0 where
-  pub room : read ≤ length before
-  pub long : length buffer ≡ length before
+pub record Along (m : Memory) (before buffer : List ℕ) (from : Node) (read : ℕ) : Type 0 where
   pub passed : read ≤ length (chain m)
-  pub words : buffer ≡ take read (chainAddresses m) ++ drop read before
+  pub words : buffer ≡ take read (keysOn m) ++ drop read before
   pub stands : from ≡ lastOf headNode (take read (chain m))
-  pub ahead : walk (aboveAll - read) m from ≡ drop read (chain m)
+  pub rest : walk (aboveAll - read) m from ≡ drop read (chain m)
   pub steps : read ≤ rank (m .addresses) from
   pub ranked : rank (m .addresses) from < aboveAll
 
-pub walked-start : (m : Memory) (before : List ℕ) → Walked m before before headNode 0
+along-start : (m : Memory) (before : List ℕ) → Along m before before headNode 0
 unfolding chain rank
-walked-start m before =
-    record {
-      room = omega arith;
-      long = refl;
-      passed = omega arith;
-      words = refl;
-      stands = refl;
-      ahead = refl;
-      steps = omega arith;
-      ranked = omega arith;
-    }
+along-start m before =
+    record { passed = omega arith; words = refl; stands = refl; rest = refl; steps = omega arith; ranked = omega arith }
 
 -- any node but tail sorts below aboveAll
-rank-below : (addresses : List ℕ) (n : Node) → n .0 ≢ 1 → getD addresses (n .0) 0 < 4294967296 → rank addresses n < aboveAll
+rank-below : (addresses : List ℕ) (n : Node) → n .0 ≢ tailNode .0 → getD addresses (n .0) 0 < addressLimit → rank addresses n < aboveAll
 unfolding rank
 rank-below addresses n inner small =
-    if-eq (λ x. x < aboveAll) (n .0) 0 (λ e. omega arith)
-    (λ _. if-eq (λ x. x < aboveAll) (n .0) 1 (λ e. absurd (inner e)) (λ _. omega arith))
+    if-eq (λ x. x < aboveAll) (n .0) (headNode .0) (λ e. omega arith)
+    (λ _. if-eq (λ x. x < aboveAll) (n .0) (tailNode .0) (λ e. absurd (inner e)) (λ _. omega arith))
 
 -- the word written is the next of the buffer
 one-word-more : (keys before : List ℕ) (read : ℕ) (x : ℕ) (xs : List ℕ) → read < length before → drop read keys ≡ x ∷ xs →
@@ -84,66 +91,93 @@ one-word-more keys before read x xs room e =
     let is : getD keys read 0 ≡ x = simp add-zero at (sym (getD-drop read keys 0 0) ∙ ap (λ l. getD l 0 0) e) in
     rw (add-one, ← is) (simp zero-add at (paste-suc before 0 keys read 0 (omega arith) (below-length read keys x xs e)))
 
-module _ (m : Memory) (before buffer : List ℕ) (from : Node) (read : ℕ) (w : Walked m before buffer from read) where
-  pub walked-on : (met : Met) (onto : Node) (word : ℕ) → met ≡ onwardFrom m from → met ≡ Next onto → read < length before
-      → word ≡ addressAt m onto → word < 4294967296 → Walked m before (set buffer read word) onto (read + 1)
-  unfolding chainAddresses addressAt
-  walked-on met onto word told next room e small =
-      let on : onwardFrom m from ≡ Next onto = sym told ∙ next in
-      let goes = met-next m from onto on in
-      let fuel : aboveAll - read ≡ suc (aboveAll - (read + 1)) = omega arith in
-      let part : drop read (chain m) ≡ onto ∷ walk (aboveAll - (read + 1)) m onto
-      = sym (w .ahead) ∙ ap (λ k. walk k m from) fuel ∙ walk-goes m from onto (aboveAll - (read + 1)) on in
-      let keys : drop read (chainAddresses m) ≡ word ∷ map (λ n. addressAt m n) (walk (aboveAll - (read + 1)) m onto)
-      = drop-map (λ n. addressAt m n) read (chain m) ∙ ap (map (λ n. addressAt m n)) part ∙ rw e in
+module _ (m : Memory) (before buffer : List ℕ) (from : Node) (read : ℕ) (w : Along m before buffer from read) (x : Ahead)
+    (told : x ≡ aheadIn (ahead m from)) where
+  along-on : (next : Node) (word : ℕ) → x ≡ Next next → read < length before → word ≡ addressAt m next → word < addressLimit
+      → Along m before (set buffer read word) next (read + 1)
+  unfolding addressAt
+  along-on next word is room e small =
+      let on = told-next m from x told next is in
+      let goes = ahead-onto m from next on in
+      let left = walk (aboveAll - (read + 1)) m next in
+      let fuel : aboveAll - read ≡ suc (aboveAll - (read + 1)) = omega (arith, w .steps, w .ranked) in
+      let part : drop read (chain m) ≡ next ∷ left
+      = sym (w .rest) ∙ ap (λ k. walk k m from) fuel ∙ walk-goes m from next (aboveAll - (read + 1)) on in
+      let keys : drop read (keysOn m) ≡ word ∷ map (λ n. addressAt m n) left
+      = ap (drop read) (keys-on m) ∙ drop-map (λ n. addressAt m n) read (chain m) ∙ ap (map (λ n. addressAt m n)) part ∙ rw e in
       record {
-        room = omega arith;
-        long = length-set buffer read word ∙ w .long;
-        passed = let h = below-length read (chain m) onto _ part in omega arith;
-        words = ap (λ b. set b read word) (w .words) ∙ one-word-more (chainAddresses m) before read word _ room keys;
-        stands = sym (ap (lastOf headNode) (take-one-more read (chain m) onto _ part) ∙ lastOf-more headNode (take read (chain m)) onto);
-        ahead = sym (drop-one-more read (chain m) onto _ part);
+        passed = let h = below-length read (chain m) next _ part in omega arith;
+        words = ap (λ b. set b read word) (w .words) ∙ one-word-more (keysOn m) before read word _ room keys;
+        stands = sym (ap (lastOf headNode) (take-one-more read (chain m) next _ part) ∙ lastOf-more headNode (take read (chain m)) next);
+        rest = sym (drop-one-more read (chain m) next _ part);
         steps = omega (arith, goes .above, w .steps);
-        ranked = rank-below (m .addresses) onto (goes .inner) (omega arith);
+        ranked = rank-below (m .addresses) next (goes .inner) (omega arith);
       }
 
   -- what was read is all that there was room for
-  ends : (met : Met) → met ≡ onwardFrom m from
-      → ((A : Type 0) → (l : List A) → length l ≡ length (chain m) → take (length before) l ≡ take read l)
-      → left buffer (Read read met) ≡ readKeys m before
-  unfolding readKeys chainAddresses
-  ends met e all =
-      let keys = all ℕ (chainAddresses m) (length-map (chain m) (λ n. addressAt m n)) in
-      let long : length (take read (chainAddresses m)) ≡ read
-      = length-take-le read (chainAddresses m) (omega (arith, length-map (chain m) (λ n. addressAt m n))) in
-      rw (keys, long, all Node (chain m) refl, e, w .words, w .stands)
+  ends : ((A : Type 0) → (l : List A) → length l ≡ length (chain m) → take (length before) l ≡ take read l)
+      → bufferLeft buffer (Read read x) ≡ readKeys m before
+  unfolding readKeys
+  ends all =
+      let long : length (take read (keysOn m)) ≡ read = length-take-le read (keysOn m) (omega (arith, keys-long m, w .passed)) in
+      rw (all ℕ (keysOn m) (keys-long m), long, all Node (chain m) refl, told, w .words, w .stands)
 
-  pub walked-full : (met : Met) → met ≡ onwardFrom m from → read ≡ length before → left buffer (Read read met) ≡ readKeys m before
-  walked-full met e full = ends met e (λ A l same. rw (sym full))
+  along-full : read ≡ length before → bufferLeft buffer (Read read x) ≡ readKeys m before
+  along-full full = ends (λ A l same. rw (sym full))
 
-  pub walked-ends : (met : Met) → met ≡ onwardFrom m from → Stops met → left buffer (Read read met) ≡ readKeys m before
-  walked-ends met e stops =
-      let none : drop read (chain m) ≡ [] = sym (w .ahead) ∙ walk-stops m from (aboveAll - read) (rw e at stops) in
+  along-ends : read ≤ length before → Stops x → bufferLeft buffer (Read read x) ≡ readKeys m before
+  along-ends room stops =
+      let none : drop read (chain m) ≡ [] = sym (w .rest) ∙ walk-stops m from (aboveAll - read) (told-stops m from x told stops) in
       let short : length (drop read (chain m)) ≡ 0 = ap length none in
       let most : length (chain m) ≤ read = omega (arith, length-drop read (chain m)) in
-      ends met e (λ A l same. take-all (length before) l (omega (arith, w .room)) ∙ sym (take-all read l (omega arith)))
+      ends (λ A l same. take-all (length before) l (omega arith) ∙ sym (take-all read l (omega arith)))
 
--- ---- reading looks at no deleter
+-- ---- the same of every memory that has the lent words
 
-read-no-deleters : (addresses links deleters : List ℕ) (count : ℕ) (buffer : List ℕ) →
-    readKeys (memory addresses links [] count) buffer ≡ readKeys (memory addresses links deleters count) buffer
-unfolding readKeys chainAddresses chain onwardFrom addressAt linkAt
-read-no-deleters addresses links deleters count buffer = rw (walk-no-deleters aboveAll addresses links deleters count headNode)
+abbrev pub lentIn : (addresses links : List ℕ) → Sizes → Memory → Memory
+lentIn addresses links sizes m = sized sizes (links≔ links (addresses≔ addresses m))
+
+module _ (addresses links : List ℕ) (sizes : Sizes) (before : List ℕ) where
+  abbrev Lent : Memory → Memory
+  Lent = lentIn addresses links sizes
+
+  pub record ReadSoFar (buffer : List ℕ) (from : Node) (read : ℕ) : Type 0 where
+    pub room : read ≤ length before
+    pub long : length buffer ≡ length before
+    pub along : (m : Memory) → Along (Lent m) before buffer from read
+
+  pub read-start : ReadSoFar before headNode 0
+  read-start = record { room = omega arith; long = refl; along = λ m. along-start (Lent m) before }
+
+  module _ (buffer : List ℕ) (from : Node) (read : ℕ) (w : ReadSoFar buffer from read) (x : Ahead)
+      (told : (m : Memory) → x ≡ aheadIn (ahead (Lent m) from)) where
+    pub read-on : (next : Node) (word : ℕ) → x ≡ Next next → read < length before → word ≡ getD addresses (next .0) 0 → word < addressLimit
+        → ReadSoFar (set buffer read word) next (read + 1)
+    unfolding addressAt
+    read-on next word is room e small = record {
+      room = omega arith;
+      long = length-set buffer read word ∙ w .long;
+      along = λ m. along-on (Lent m) before buffer from read (w .along m) x (told m) next word is room e small;
+    }
+
+    pub read-full : read ≡ length before → (m : Memory) → bufferLeft buffer (Read read x) ≡ readKeys (Lent m) before
+    read-full full m = along-full (Lent m) before buffer from read (w .along m) x (told m) full
+
+    pub read-ends : Stops x → (m : Memory) → bufferLeft buffer (Read read x) ≡ readKeys (Lent m) before
+    read-ends stops m = along-ends (Lent m) before buffer from read (w .along m) x (told m) (w .room) stops
 
 -- ---- what the test of the tables tells
 
-module _ (nodes processes : ℕ) (addresses links deleters : List ℕ) (count : ℕ) (buffer : List ℕ) (fit : Bool)
-    (told : fit ≡ tablesFit nodes processes (memory addresses links deleters count)) where
-  pub keys-read : (x : Left) → fit ≡ true → x ≡ readKeys (memory addresses links [] count) buffer
-      → x ≡ keysOf nodes processes (memory addresses links deleters count) buffer
-  unfolding keysOf
-  keys-read x fits e = rw (sym told, fits) (e ∙ read-no-deleters addresses links deleters count buffer)
+module _ (addresses links deleters : List ℕ) (sizes : Sizes) (buffer : List ℕ) (fit : Bool) where
+  abbrev lent : Memory
+  lent = lentMemory addresses links deleters sizes
 
-  pub keys-refused : fit ≡ false → left buffer (Refused 7) ≡ keysOf nodes processes (memory addresses links deleters count) buffer
-  unfolding keysOf
-  keys-refused unfit = rw (sym told, unfit)
+  module _ (told : fit ≡ tablesFit lent) where
+    pub keys-read : (x : BufferLeft) → fit ≡ true
+        → ((m : Memory) → x ≡ readKeys (lentIn addresses links sizes m) buffer) → x ≡ keysOf lent buffer
+    unfolding keysOf
+    keys-read x fits e = rw (sym told, fits) (e lent)
+
+    pub keys-refused : fit ≡ false → bufferLeft buffer (Refused 7) ≡ keysOf lent buffer
+    unfolding keysOf
+    keys-refused unfit = rw (sym told, unfit)

@@ -1,22 +1,31 @@
--- Two outcomes that meet a promise of this crate for the same entry are equal. Rests on the definitions' being functions alone.
+-- Two outcomes that meet a promise of this crate for the same entry are equal. Rests on the definitions' being functions, and on
+-- Reading for a name.
 use mathlib.Core.Path.{_≡_, sym, _∙_}
 use mathlib.Core.List.{List}
 use Prim.Native.Nat.{ℕ}
 use Rattle.record.specs.declared.Node.{Node}
-use Rattle.table.specs.Words.{Memory}
-use Rattle.chain.specs.declared.Met.{Met}
+use Rattle.table.specs.Words.{Memory, freshMemory}
+use Rattle.table.specs.Chain.{ahead}
+use Rattle.words.specs.declared.Sizes.{Sizes}
+use Rattle.chain.specs.declared.Ahead.{Ahead}
 use Rattle.chain.specs.declared.Walked.{Walked}
 use Rattle.chain.specs.declared.Keys.{Keys}
-use Rattle.chain.specs.Walking.{onwardFrom, walkedFrom}
-use Rattle.chain.specs.Keys.{left, keysOf}
+use Rattle.chain.specs.Walking.{aheadIn, walkedFrom}
+use Rattle.chain.specs.Keys.{bufferLeft, keysOf}
+use Rattle.chain.proofs.Reading.{lentIn}
 
-pub onward-unique : (m : Memory) (from : Node) {a b : Met} → a ≡ onwardFrom m from → b ≡ onwardFrom m from → a ≡ b
-onward-unique m from e h = e ∙ sym h
+-- what is promised of every memory is promised of a fresh one
+module _ (addresses links : List ℕ) (sizes : Sizes) (from : Node) where
+  abbrev Lent : Memory → Memory
+  Lent = lentIn addresses links sizes
 
-pub walk-on-unique : (m : Memory) (from : Node) {a b : Walked} → a ≡ walkedFrom m from → b ≡ walkedFrom m from → a ≡ b
-walk-on-unique m from e h = e ∙ sym h
+  pub onward-unique : {a b : Ahead} → ((m : Memory) → a ≡ aheadIn (ahead (Lent m) from)) → ((m : Memory) → b ≡ aheadIn (ahead (Lent m) from))
+      → a ≡ b
+  onward-unique e h = let m = freshMemory 2 1 in e m ∙ sym (h m)
 
-pub chain-addresses-unique : (nodes processes : ℕ) (m : Memory) (buffer : List ℕ) {xs ys : List ℕ} {a b : Keys}
-    → left xs a ≡ keysOf nodes processes m buffer → left ys b ≡ keysOf nodes processes m buffer → (xs ≡ ys) × (a ≡ b)
-chain-addresses-unique nodes processes m buffer e h =
-    let same = e ∙ sym h in (λ j. same j .buffer, λ j. same j .answer)
+  pub walk-on-unique : {a b : Walked} → ((m : Memory) → a ≡ walkedFrom (Lent m) from) → ((m : Memory) → b ≡ walkedFrom (Lent m) from) → a ≡ b
+  walk-on-unique e h = let m = freshMemory 2 1 in e m ∙ sym (h m)
+
+pub chain-addresses-unique : (m : Memory) (buffer : List ℕ) {xs ys : List ℕ} {a b : Keys}
+    → bufferLeft xs a ≡ keysOf m buffer → bufferLeft ys b ≡ keysOf m buffer → (xs ≡ ys) × (a ≡ b)
+chain-addresses-unique m buffer e h = let same = e ∙ sym h in (λ j. same j .buffer, λ j. same j .answer)

@@ -1,166 +1,171 @@
--- Laws of the walk along the chain: what it meets after a node decides how it goes on, and it never runs out of steps. Rests on the tests alone.
+-- Laws of the walk along the chain: what lies ahead of a node decides how it goes on, and it never runs out of steps. Rests on the table's `ahead`.
 use mathlib.Core.Path.{_≡_, refl, sym, _∙_, ap, subst}
 use mathlib.Core.Logic.{_≢_}
-use mathlib.Core.Bool.{Bool, true, false, not, _&&_}
-use mathlib.Core.List.{List, [], _∷_}
+use mathlib.Core.Bool.{Bool, true, false}
+use mathlib.Core.List.{List, [], _∷_, map}
 use Prim.Native.Nat.{ℕ, zero, suc, _≤_, _<_, _+_}
 use native.Mathlib.Omega.{arith}
 use lib.Dec.{ltb, eqb}
 use lib.ListN.{getD}
-use borrow.Author.Tests.{ltb-true, eqb-false, not-true, lt-ltb, le-ltb, eq-eqb, ne-eqb}
+use borrow.Author.Tests.{ltb-true, eqb-false, lt-ltb, le-ltb, eq-eqb, ne-eqb}
 use denote.Enum.Declared.{tagOf}
 use types.Run.{OneOf, miss}
-use Rattle.record.specs.Record.{headNode, address}
+use Rattle.basics.proofs.Tests.{if-eq}
+use Rattle.record.specs.Record.{headNode, tailNode, address}
 use Rattle.record.specs.declared.Node.{Node}
-use Rattle.table.specs.Words.{Memory, memory, addressAt, linkAt, targetOf, inUse, rank, aboveAll}
-use Rattle.table.specs.Chain.{goesOn, walk, chain}
-use Rattle.basics.proofs.Tests.{if-eq, and-left, and-right}
-use Rattle.chain.specs.declared.Met.{Met}
-use Rattle.chain.specs.declared.Met.the-variants.{Next, Tail, NotInUse, NotAbove}
+use Rattle.table.specs.Words.{Memory, addresses≔, links≔, addressAt, linkAt, targetOf, inUse, rank, addressLimit, aboveAll}
+use Rattle.table.specs.Chain as table
+use Rattle.table.specs.Chain.{follows, onto, tailAhead, notInUse, notAbove, aheadOf, ahead, walk, chain}
+use Rattle.words.specs.declared.Sizes.{Sizes}
+use Rattle.words.specs.LentMemory.{sized}
+use Rattle.chain.specs.declared.Ahead.{Ahead}
+use Rattle.chain.specs.declared.Ahead.the-variants.{Next, Tail, NotInUse, NotAbove}
 use Rattle.chain.specs.declared.Walked.the-variants.{Onto, Ends}
-use Rattle.chain.proofs.Met.{the-type}
-use Rattle.chain.specs.Walking.{metOf, onwardFrom, walkedFrom}
+use Rattle.chain.proofs.Ahead.{the-type}
+use Rattle.chain.specs.Walking.{aheadIn, walkedOn, walkedFrom}
 
 -- ---- what the code's tests tell
 
-pub met-tail : (onto : Node) (tail used above : Bool) → tail ≡ true → Tail ≡ metOf onto tail used above
-met-tail onto tail used above e = rw e
+module _ (target : Node) (tail used above : Bool) where
+  abbrev Says : Ahead → Type 0
+  Says x = x ≡ aheadIn (aheadOf target tail used above)
 
-pub met-unused : (onto : Node) (tail used above : Bool) → tail ≡ false → used ≡ false → NotInUse ≡ metOf onto tail used above
-met-unused onto tail used above e f = rw (e, f)
+  pub says-tail : tail ≡ true → Says Tail
+  says-tail e = rw e
 
-pub met-not-above : (onto : Node) (tail used above : Bool) → tail ≡ false → used ≡ true → above ≡ false → NotAbove ≡ metOf onto tail used above
-met-not-above onto tail used above e f g = rw (e, f, g)
+  pub says-unused : tail ≡ false → used ≡ false → Says NotInUse
+  says-unused e f = rw (e, f)
 
-pub met-above : (onto : Node) (tail used above : Bool) → tail ≡ false → used ≡ true → above ≡ true → Next onto ≡ metOf onto tail used above
-met-above onto tail used above e f g = rw (e, f, g)
+  pub says-not-above : tail ≡ false → used ≡ true → above ≡ false → Says NotAbove
+  says-not-above e f g = rw (e, f, g)
 
-pub ruleset mets = (met-tail, met-unused, met-not-above, met-above, lt-ltb, le-ltb, eq-eqb, ne-eqb)
+  pub says-next : tail ≡ false → used ≡ true → above ≡ true → Says (Next target)
+  says-next e f g = rw (e, f, g)
+
+pub ruleset judged = (says-tail, says-unused, says-not-above, says-next, lt-ltb, le-ltb, eq-eqb, ne-eqb)
 
 -- the words that the code read are known by equations
-pub onward-told : (addresses links : List ℕ) (count : ℕ) (from target : Node) (word at to : ℕ) (used : Bool) (x : Met) →
-    x ≡ metOf target (eqb (target .0) 1) used (ltb at to) → target ≡ targetOf word → word ≡ getD links (from .0) 0 → used ≡ ltb (target .0) count
-    → at ≡ rank addresses from → to ≡ rank addresses target → x ≡ onwardFrom (memory addresses links [] count) from
-unfolding onwardFrom linkAt
-onward-told addresses links count from target word at to used x told is e u h k = told ∙ rw (u, h, k, is, e)
+pub onward-told : (addresses links : List ℕ) (sizes : Sizes) (from target : Node) (word at to : ℕ) (used : Bool) (x : Ahead)
+    → x ≡ aheadIn (aheadOf target (eqb (target .0) (tailNode .0)) used (ltb at to)) → target ≡ targetOf word → word ≡ getD links (from .0) 0
+    → ((m : Memory) → used ≡ inUse (sized sizes (links≔ links m)) target) → at ≡ rank addresses from → to ≡ rank addresses target
+    → (m : Memory) → x ≡ aheadIn (ahead (sized sizes (links≔ links (addresses≔ addresses m))) from)
+unfolding ahead linkAt
+onward-told addresses links sizes from target word at to used x told is e u h k m = told ∙ rw (u (addresses≔ addresses m), h, k, is, e)
+
+-- ---- what lies ahead, by cases
+
+-- a next node is told of a next node alone
+next-onto : (x : table.Ahead) (n : Node) → aheadIn x ≡ Next n → x ≡ onto n
+next-onto (onto o) n e = cc
+next-onto tailAhead n e = absurd (let z : _≡_ {A = ℕ} 0 1 = cc in omega arith)
+next-onto notInUse n e = absurd (let z : _≡_ {A = ℕ} 0 1 = cc in omega arith)
+next-onto notAbove n e = absurd (let z : _≡_ {A = ℕ} 0 1 = cc in omega arith)
+
+-- any answer but a next node
+abbrev pub Stops : Ahead → Type 0
+Stops x = OneOf (1 ∷ 2 ∷ 3 ∷ []) (tagOf the-type x)
+
+module _ (P : table.Ahead → Type 0) where
+  -- whatever lies ahead: a next node, or one of the three that stop the walk
+  pub goes-or-stops : (x : table.Ahead) → ((n : Node) → x ≡ onto n → P (onto n)) → P tailAhead → P notInUse → P notAbove → P x
+  goes-or-stops (onto n) goes t u a = goes n refl
+  goes-or-stops tailAhead goes t u a = t
+  goes-or-stops notInUse goes t u a = u
+  goes-or-stops notAbove goes t u a = a
+
+  stops-meet : (x : table.Ahead) → Stops (aheadIn x) → P tailAhead → P notInUse → P notAbove → P x
+  stops-meet (onto n) stops t u a = absurd (miss (1 ∷ 2 ∷ 3 ∷ []) 0 tt stops)
+  stops-meet tailAhead stops t u a = t
+  stops-meet notInUse stops t u a = u
+  stops-meet notAbove stops t u a = a
 
 -- ---- the walk goes on as it meets
 
 -- the walk goes on to a node
-pub record GoesOn (m : Memory) (from onto : Node) : Type 0 where
-  pub target : onto ≡ targetOf (linkAt m from)
-  pub inner : onto .0 ≢ 1
-  pub used : onto .0 < m .count
-  pub above : rank (m .addresses) from < rank (m .addresses) onto
+pub record GoesOn (m : Memory) (from next : Node) : Type 0 where
+  pub target : follows m from ≡ next
+  pub inner : next .0 ≢ tailNode .0
+  pub used : inUse m next ≡ true
+  pub above : rank (m .addresses) from < rank (m .addresses) next
 
--- a next node is met where all three tests tell so, and it is the target
-only-next : (onto n : Node) (tail used above : Bool) → metOf onto tail used above ≡ Next n → ((not tail && used && above) ≡ true) × (onto ≡ n)
-only-next onto n true used above e = absurd (let z : _≡_ {A = ℕ} 0 1 = cc in omega arith)
-only-next onto n false false above e = absurd (let z : _≡_ {A = ℕ} 0 1 = cc in omega arith)
-only-next onto n false true false e = absurd (let z : _≡_ {A = ℕ} 0 1 = cc in omega arith)
-only-next onto n false true true e = (refl, cc)
+-- it does where all three tests tell so, and to the target
+pub record AllTell (target next : Node) (tail used above : Bool) : Type 0 where
+  pub not-tail : tail ≡ false
+  pub is-used : used ≡ true
+  pub is-above : above ≡ true
+  pub is-next : target ≡ next
 
--- the nodes after a node, where the walk goes on
-abbrev ahead : Bool → List Node → List Node
-ahead on xs = elim on [ true ↦ xs | false ↦ [] ]
+all-tell : (target next : Node) (tail used above : Bool) → aheadOf target tail used above ≡ onto next → AllTell target next tail used above
+all-tell target next true used above e = absurd (let z : _≡_ {A = ℕ} 0 1 = cc in omega arith)
+all-tell target next false false above e = absurd (let z : _≡_ {A = ℕ} 0 1 = cc in omega arith)
+all-tell target next false true false e = absurd (let z : _≡_ {A = ℕ} 0 1 = cc in omega arith)
+all-tell target next false true true e = record { not-tail = refl; is-used = refl; is-above = refl; is-next = cc }
 
-ahead-same : (on : Bool) (xs ys : List Node) → (on ≡ true → xs ≡ ys) → ahead on xs ≡ ahead on ys
-ahead-same true xs ys e = e refl
-ahead-same false xs ys e = refl
-
-ahead-none : (on : Bool) (xs : List Node) → (on ≡ true → ⊥) → ahead on xs ≡ []
-ahead-none true xs e = absurd (e refl)
-ahead-none false xs e = refl
+-- what a walk with k steps left has after a node, from what lies ahead
+abbrev pub after : ℕ → Memory → table.Ahead → List Node
+after k m x = elim x [ onto n ↦ n ∷ walk k m n | tailAhead ↦ [] | notInUse ↦ [] | notAbove ↦ [] ]
 
 module _ (m : Memory) (from : Node) where
-  abbrev target : Node
-  target = targetOf (linkAt m from)
-
-  goes-on : goesOn m from target ≡ true → GoesOn m from target
-  goes-on e =
-      let above = ltb (rank (m .addresses) from) (rank (m .addresses) target) in
-      let outer = not (eqb (target .0) 1) in
-      let both = and-left (outer && inUse m target) above e in
-      record {
+  pub ahead-onto : (next : Node) → ahead m from ≡ onto next → GoesOn m from next
+  unfolding ahead
+  ahead-onto next e =
+      let target = follows m from in
+      let at = rank (m .addresses) from in
+      let tests = all-tell target next (eqb (target .0) (tailNode .0)) (inUse m target) (ltb at (rank (m .addresses) target)) e in
+      subst (λ n. GoesOn m from n) (tests .is-next) (record {
         target = refl;
-        inner = eqb-false (target .0) 1 (not-true (eqb (target .0) 1) (and-left outer (inUse m target) both));
-        used = ltb-true (target .0) (m .count) (and-right outer (inUse m target) both);
-        above = ltb-true (rank (m .addresses) from) (rank (m .addresses) target) (and-right (outer && inUse m target) above e);
-      }
+        inner = eqb-false (target .0) (tailNode .0) (tests .not-tail);
+        used = tests .is-used;
+        above = ltb-true at (rank (m .addresses) target) (tests .is-above);
+      })
 
-  module _ (onto : Node) where
-    abbrev Goes : Type 0
-    Goes = (goesOn m from target ≡ true) × (target ≡ onto)
+  pub walk-goes : (next : Node) (k : ℕ) → ahead m from ≡ onto next → walk (suc k) m from ≡ next ∷ walk k m next
+  unfolding walk
+  walk-goes next k e = ap (after k m) e
 
-    next-goes : onwardFrom m from ≡ Next onto → Goes
-    unfolding onwardFrom
-    next-goes = only-next target onto (eqb (target .0) 1) (inUse m target) (ltb (rank (m .addresses) from) (rank (m .addresses) target))
-
-    pub met-next : onwardFrom m from ≡ Next onto → GoesOn m from onto
-    met-next e = subst (λ n. GoesOn m from n) (next-goes e .1) (goes-on (next-goes e .0))
-
-    pub walk-goes : (k : ℕ) → onwardFrom m from ≡ Next onto → walk (suc k) m from ≡ onto ∷ walk k m onto
-    unfolding walk
-    walk-goes k e =
-        ap (λ on. ahead on (target ∷ walk k m target)) (next-goes e .0) ∙ ap (λ n. n ∷ walk k m n) (next-goes e .1)
-
--- any answer but a next node
-abbrev pub Stops : Met → Type 0
-Stops x = OneOf (1 ∷ 2 ∷ 3 ∷ []) (tagOf the-type x)
-
-only-stops : (onto : Node) (tail used above : Bool) → Stops (metOf onto tail used above) → (not tail && used && above) ≡ false
-only-stops onto true used above h = refl
-only-stops onto false false above h = refl
-only-stops onto false true false h = refl
-only-stops onto false true true h = absurd (miss (1 ∷ 2 ∷ 3 ∷ []) 0 tt h)
-
-module _ (m : Memory) (from : Node) where
-  stopped : Stops (onwardFrom m from) → goesOn m from (target m from) ≡ false
-  unfolding onwardFrom
-  stopped =
-      let onto = target m from in
-      only-stops onto (eqb (onto .0) 1) (inUse m onto) (ltb (rank (m .addresses) from) (rank (m .addresses) onto))
-
-  pub walk-stops : (k : ℕ) → Stops (onwardFrom m from) → walk k m from ≡ []
+  pub walk-stops : (k : ℕ) → Stops (aheadIn (ahead m from)) → walk k m from ≡ []
   unfolding walk
   walk-stops zero stops = refl
-  walk-stops (suc k) stops = ap (λ on. ahead on (target m from ∷ walk k m (target m from))) (stopped stops)
+  walk-stops (suc k) stops = stops-meet (λ x. after k m x ≡ []) (ahead m from) stops refl refl refl
 
-  -- ---- a walk's next node, with its address
+  -- ---- what the code was told of a node
 
-  pub walked-onto : (onto : Node) (met : Met) (word : ℕ) → met ≡ onwardFrom m from → met ≡ Next onto → word ≡ addressAt m onto
-      → Onto onto (address word) ≡ walkedFrom m from
-  unfolding walkedFrom
-  walked-onto onto met word told next e =
-      let goes = next-goes m from onto (sym told ∙ next) in
-      rw (e, goes .0, sym (goes .1))
+  module _ (x : Ahead) (told : x ≡ aheadIn (ahead m from)) where
+    pub told-next : (next : Node) → x ≡ Next next → ahead m from ≡ onto next
+    told-next next e = next-onto (ahead m from) next (sym told ∙ e)
 
-  pub walked-ends : (met : Met) → met ≡ onwardFrom m from → Stops met → Ends ≡ walkedFrom m from
-  unfolding walkedFrom
-  walked-ends met told stops = rw (stopped (rw told at stops))
+    pub told-stops : Stops x → Stops (aheadIn (ahead m from))
+    told-stops stops = subst Stops told stops
 
--- ---- the walk does not look at deleters
+    -- a walk's next node, with its address, or its end
+    pub walked-onto : (next : Node) (word : ℕ) → x ≡ Next next → word ≡ addressAt m next → Onto next (address word) ≡ walkedFrom m from
+    unfolding walkedFrom
+    walked-onto next word e is = rw (is, told-next next e)
 
-pub walk-no-deleters : (k : ℕ) (addresses links deleters : List ℕ) (count : ℕ) (from : Node) →
-    walk k (memory addresses links [] count) from ≡ walk k (memory addresses links deleters count) from
-unfolding walk linkAt
-walk-no-deleters zero addresses links deleters count from = refl
-walk-no-deleters (suc k) addresses links deleters count from =
-    let m = memory addresses links [] count in
-    let onto = targetOf (linkAt m from) in
-    ap (λ xs. ahead (goesOn m from onto) (onto ∷ xs)) (walk-no-deleters k addresses links deleters count onto)
+    pub walked-ends : Stops x → Ends ≡ walkedFrom m from
+    unfolding walkedFrom
+    walked-ends stops = stops-meet (λ y. Ends ≡ walkedOn m y) (ahead m from) (told-stops stops) refl refl refl
+
+-- the addresses along a walk, one `walk_on` after another
+pub walk-by-steps : (m : Memory) (from : Node) (k : ℕ) → let addresses = map (λ n. address (addressAt m n)) in
+    addresses (walk (suc k) m from) ≡ elim (walkedFrom m from) [ Onto n a ↦ a ∷ addresses (walk k m n) | Ends ↦ [] ]
+unfolding walk walkedFrom
+walk-by-steps m from k =
+    let addresses = map (λ n. address (addressAt m n)) in
+    goes-or-stops (λ x. addresses (after k m x) ≡ elim (walkedOn m x) [ Onto n a ↦ a ∷ addresses (walk k m n) | Ends ↦ [] ]) (ahead m from)
+    (λ n on. refl) refl refl refl
 
 -- ---- the walk ends by itself: every node sorts above the one before it, and no more than aboveAll of them can
 
 -- the words of a lent table
 abbrev pub Words32 : List ℕ → Type 0
-Words32 words = (i : ℕ) → getD words i 0 < 4294967296
+Words32 words = (i : ℕ) → getD words i 0 < addressLimit
 
 rank-most : (addresses : List ℕ) → Words32 addresses → (n : Node) → rank addresses n ≤ aboveAll
 unfolding rank
 rank-most addresses small n =
-    if-eq (λ x. x ≤ aboveAll) (n .0) 0 (λ e. omega arith)
-    (λ _. if-eq (λ x. x ≤ aboveAll) (n .0) 1 (λ e. omega arith) (λ _. omega (arith, small (n .0))))
+    if-eq (λ x. x ≤ aboveAll) (n .0) (headNode .0) (λ e. omega arith)
+    (λ _. if-eq (λ x. x ≤ aboveAll) (n .0) (tailNode .0) (λ e. omega arith) (λ _. omega (arith, small (n .0))))
 
 -- a walk at most k ranks below aboveAll needs no more than k steps
 enough : (k steps : ℕ) (m : Memory) (from : Node) → Words32 (m .addresses) → aboveAll ≤ rank (m .addresses) from + k → k ≤ steps
@@ -168,16 +173,12 @@ enough : (k steps : ℕ) (m : Memory) (from : Node) → Words32 (m .addresses) �
 unfolding walk
 enough zero zero m from small room more = refl
 enough zero (suc j) m from small room more =
-    let onto = target m from in
-    ahead-none (goesOn m from onto) (onto ∷ walk j m onto)
-    (λ on. let above = goes-on m from on .above in omega (arith, rank-most (m .addresses) small onto))
+    goes-or-stops (λ x. after j m x ≡ []) (ahead m from)
+    (λ n on. absurd (omega (arith, ahead-onto m from n on .above, rank-most (m .addresses) small n))) refl refl refl
 enough (suc k) zero m from small room more = absurd (omega arith)
 enough (suc k) (suc j) m from small room more =
-    let onto = target m from in
-    ahead-same (goesOn m from onto) (onto ∷ walk j m onto) (onto ∷ walk k m onto)
-    (λ on.
-    let above = goes-on m from on .above in
-    ap (λ xs. onto ∷ xs) (enough k j m onto small (omega arith) (omega arith)))
+    goes-or-stops (λ x. after j m x ≡ after k m x) (ahead m from)
+    (λ n on. let above = ahead-onto m from n on .above in ap (λ ns. n ∷ ns) (enough k j m n small (omega arith) (omega arith))) refl refl refl
 
 pub walk-ends-by-itself : (m : Memory) → Words32 (m .addresses) → (steps : ℕ) → aboveAll ≤ steps → walk steps m headNode ≡ chain m
 unfolding chain

@@ -1,11 +1,12 @@
 // The addresses on the chain, read into a lent buffer: what the `keys` line shows. Rests on the place table's walk and on the words.
 ghost use mathlib.Core.Path.{_≡_};
-ghost use mathlib.Core.List.{[]};
 ghost use lib.Dec.{ltb, eqb};
-ghost use Rattle.table.specs.Words.{memory};
-ghost use Rattle.words.specs.Lent.{lentMemory};
-ghost use Rattle.chain.specs.Walking.{metOf, onwardFrom, walkedFrom};
-ghost use Rattle.chain.specs.Keys.{left, readKeys, keysOf};
+ghost use Rattle.record.specs.Record.{tailNode};
+ghost use Rattle.table.specs.Words.{Memory, addresses≔, links≔};
+ghost use Rattle.table.specs.Chain.{ahead, aheadOf};
+ghost use Rattle.words.specs.LentMemory.{lentMemory, sized};
+ghost use Rattle.chain.specs.Walking.{aheadIn, walkedFrom};
+ghost use Rattle.chain.specs.Keys.{bufferLeft, readKeys, keysOf};
 use record::Address;
 use record::HEAD;
 use record::Node;
@@ -13,7 +14,7 @@ use record::TAIL;
 use words::Sizes;
 
 // What the walk along the chain meets after a node: a node to go on to, or why it stops.
-pub enum Met {
+pub enum Ahead {
     Next(Node),
     Tail,
     NotInUse,
@@ -30,44 +31,44 @@ pub enum Walked {
 // them: a next node, where the buffer was full.
 pub enum Keys {
     Refused(u8),
-    Read(usize, Met),
+    Read(usize, Ahead),
 }
 
 // Whether the walk at rank `from` goes on to a target at rank `to`, in use or not, or why it stops.
-fn judge(target: Node, used: bool, from: u64, to: u64) -> Met
-    ensures { λ r. ⌜ r ≡ metOf target (eqb (target .0) 1) used (ltb from to) ⌝ }
+fn judge(target: Node, used: bool, from: u64, to: u64) -> Ahead
+    ensures { λ r. ⌜ r ≡ aheadIn (aheadOf target (eqb (target .0) (tailNode .0)) used (ltb from to)) ⌝ }
 {
     if target.0 == TAIL.0 {
-        return Met::Tail;
+        return Ahead::Tail;
     }
     if used {
         if from < to {
-            return Met::Next(target);
+            return Ahead::Next(target);
         }
-        return Met::NotAbove;
+        return Ahead::NotAbove;
     }
-    Met::NotInUse
+    Ahead::NotInUse
 }
 
 // What the walk meets after a node.
-pub fn onward(addresses: &[u32], links: &[u32], count: u32, from: Node) -> Met
-    ensures { λ r. ⌜ r ≡ onwardFrom (memory (now (addresses .entry)) (now (links .entry)) [] count) from ⌝ }
+pub fn onward(addresses: &[u32], links: &[u32], sizes: Sizes, from: Node) -> Ahead
+    ensures { λ r. ⌜ ((m : Memory) → r ≡ aheadIn (ahead (sized sizes (links≔ (now (links .entry)) (addresses≔ (now (addresses .entry)) m))) from)) ⌝ }
 {
     let target = words::target_of(words::word_at(links, from));
     judge(
         target,
-        words::in_use(target, count),
+        words::in_use(links, sizes, target),
         words::rank_of(addresses, from),
         words::rank_of(addresses, target),
     )
 }
 
 // From a node to the next.
-pub fn walk_on(addresses: &[u32], links: &[u32], count: u32, from: Node) -> Walked
-    ensures { λ r. ⌜ r ≡ walkedFrom (memory (now (addresses .entry)) (now (links .entry)) [] count) from ⌝ }
+pub fn walk_on(addresses: &[u32], links: &[u32], sizes: Sizes, from: Node) -> Walked
+    ensures { λ r. ⌜ ((m : Memory) → r ≡ walkedFrom (sized sizes (links≔ (now (links .entry)) (addresses≔ (now (addresses .entry)) m))) from) ⌝ }
 {
-    let met = onward(addresses, links, count, from);
-    let Met::Next(onto) = met else {
+    let ahead = onward(addresses, links, sizes, from);
+    let Ahead::Next(onto) = ahead else {
         return Walked::Ends;
     };
     let address = words::word_at(addresses, onto);
@@ -75,18 +76,19 @@ pub fn walk_on(addresses: &[u32], links: &[u32], count: u32, from: Node) -> Walk
 }
 
 // As many of the chain's addresses as the buffer has room for.
-fn read_chain(addresses: &[u32], links: &[u32], count: u32, buffer: &mut [u32]) -> Keys
-    ensures { λ r. ⌜ left (now (buffer .exit)) r ≡ readKeys (memory (now (addresses .entry)) (now (links .entry)) [] count) (now (buffer .entry)) ⌝ }
+fn read_chain(addresses: &[u32], links: &[u32], sizes: Sizes, buffer: &mut [u32]) -> Keys
+    ensures { λ r. ⌜ ((m : Memory) → bufferLeft (now (buffer .exit)) r ≡
+        readKeys (sized sizes (links≔ (now (links .entry)) (addresses≔ (now (addresses .entry)) m))) (now (buffer .entry))) ⌝ }
 {
     let mut from = HEAD;
     let mut read: usize = 0;
     loop {
-        let met = onward(addresses, links, count, from);
-        let Met::Next(onto) = met else {
-            return Keys::Read(read, met);
+        let ahead = onward(addresses, links, sizes, from);
+        let Ahead::Next(onto) = ahead else {
+            return Keys::Read(read, ahead);
         };
         if read == buffer.len() {
-            return Keys::Read(read, met);
+            return Keys::Read(read, ahead);
         }
         buffer[read] = words::word_at(addresses, onto);
         read += 1;
@@ -102,12 +104,11 @@ pub fn chain_addresses(
     sizes: Sizes,
     buffer: &mut [u32],
 ) -> Keys
-    ensures { λ r. ⌜ left (now (buffer .exit)) r ≡
-        keysOf (sizes .nodes) (sizes .processes) (lentMemory (now (addresses .entry)) (now (links .entry)) (now (deleters .entry)) sizes)
-        (now (buffer .entry)) ⌝ }
+    ensures { λ r. ⌜ bufferLeft (now (buffer .exit)) r ≡
+        keysOf (lentMemory (now (addresses .entry)) (now (links .entry)) (now (deleters .entry)) sizes) (now (buffer .entry)) ⌝ }
 {
     if words::tables_fit(addresses, links, deleters, sizes) {
-        return read_chain(addresses, links, sizes.count, buffer);
+        return read_chain(addresses, links, sizes, buffer);
     }
     Keys::Refused(7)
 }

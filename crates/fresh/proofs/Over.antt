@@ -1,4 +1,5 @@
--- New words or records laid over lent ones, one element after another: what a loop that writes the same element at each index leaves.
+-- New words or records laid over lent ones, one element after another: what a loop that writes the same element at each index leaves. Rests on the
+-- kit's lists alone.
 use mathlib.Core.Path.{_≡_, refl, sym, ap, _∙_}
 use Prim.Native.Nat.{ℕ, zero, suc, _+_, _<_, _≤_}
 use native.Mathlib.Nat.{not-suc-le-zero, le-of-suc-le-suc}

@@ -1,15 +1,13 @@
 -- Lent tables and a lent row of records made fresh, or refused. Rests on the place table's fresh state.
 use mathlib.Core.Bool.{Bool, cond, _&&_}
-use mathlib.Core.List.{List}
 use mathlib.Core.Option.{Option, none, some}
 use Prim.Native.Nat.{ℕ}
 use lib.Dec.{leb}
 use lib.ListN.{length}
 use Rattle.basics.specs.Over.{over}
-use Rattle.record.specs.declared.Record.{Record}
-use Rattle.table.specs.Words.{memory}
-use Rattle.table.specs.Events.{fresh, tablesFit}
-use Rattle.words.specs.Lent.{sizesOf}
+use Rattle.table.specs.Words.{Memory, memory, count≔, freshMemory}
+use Rattle.table.specs.Events.{tablesFit, State, stateOf, fresh}
+use Rattle.words.specs.LentMemory.{sizesOf}
 use Rattle.words.specs.declared.Sizes.{Sizes}
 use Rattle.fresh.specs.declared.Made.{Made}
 use Rattle.fresh.specs.declared.Made.the-variants.{Refused, Fresh}
@@ -22,43 +20,51 @@ madeOf (some sizes) = Fresh sizes
 
 -- ---- the tables alone
 
+-- the sizes that are asked for, with the count of a fresh list
+abbrev pub freshSizes : (nodes processes : ℕ) → Sizes
+freshSizes nodes processes = record { nodes = nodes; processes = processes; count = freshMemory nodes processes .count }
+
 -- the lent tables afterwards, and the answer
 pub record TablesLeft : Type 0 where
-  pub addresses : List ℕ
-  pub links : List ℕ
-  pub deleters : List ℕ
+  pub memory : Memory
   pub answer : Made
 
-abbrev pub tablesLeft : List ℕ → List ℕ → List ℕ → Made → TablesLeft
-tablesLeft addresses links deleters answer = record { addresses = addresses; links = links; deleters = deleters; answer = answer }
+abbrev pub tablesLeft : Memory → Made → TablesLeft
+tablesLeft memory answer = record { memory = memory; answer = answer }
 
--- a fresh list fits the lent tables: sizes inside the limits, no lent table too short
-abbrev pub freshFits : List ℕ → List ℕ → List ℕ → (nodes processes : ℕ) → Bool
-freshFits addresses links deleters nodes processes =
-    tablesFit nodes processes (memory addresses links deleters (fresh nodes processes .memory .count))
+-- the words of a new memory over the lent ones
+abbrev pub laidOver : (new lent : Memory) → Memory
+laidOver new lent =
+    memory
+    (over (new .addresses) (lent .addresses)) (over (new .links) (lent .links)) (over (new .deleters) (lent .deleters))
+    (new .count) (new .nodes) (new .processes)
+
+-- the fresh memory of the sizes that a memory states
+abbrev pub freshOf : Memory → Memory
+freshOf m = freshMemory (m .nodes) (m .processes)
+
+-- it fits the lent tables: sizes inside the limits, no lent table too short
+abbrev pub freshFits : Memory → Bool
+freshFits m = tablesFit (count≔ (freshOf m .count) m)
 
 -- "An accepted header makes the tables fresh; a refused one changes nothing."
-unfoldable pub freshTables : List ℕ → List ℕ → List ℕ → (nodes processes : ℕ) → TablesLeft
-freshTables addresses links deleters nodes processes =
-    let σ = fresh nodes processes in
-    cond (freshFits addresses links deleters nodes processes)
-    (tablesLeft (over (σ .memory .addresses) addresses) (over (σ .memory .links) links) (over (σ .memory .deleters) deleters)
-    (madeOf (some (sizesOf σ))))
-    (tablesLeft addresses links deleters (madeOf none))
+unfoldable pub freshTables : Memory → TablesLeft
+freshTables m =
+    cond (freshFits m) (tablesLeft (laidOver (freshOf m) m) (madeOf (some (sizesOf (freshOf m))))) (tablesLeft m (madeOf none))
 
 -- ---- the tables and the row
 
 pub record ListLeft : Type 0 where
-  pub tables : TablesLeft
-  pub row : List Record
+  pub state : State
+  pub answer : Made
 
-abbrev pub listLeft : List ℕ → List ℕ → List ℕ → List Record → Made → ListLeft
-listLeft addresses links deleters row answer = record { tables = tablesLeft addresses links deleters answer; row = row }
+abbrev pub listLeft : State → Made → ListLeft
+listLeft state answer = record { state = state; answer = answer }
 
 -- the same of the row too; a row shorter than the process count is a lent table too short
-unfoldable pub freshList : List ℕ → List ℕ → List ℕ → List Record → (nodes processes : ℕ) → ListLeft
-freshList addresses links deleters row nodes processes =
-    let σ = fresh nodes processes in
-    cond (leb processes (length row) && freshFits addresses links deleters nodes processes)
-    (record { tables = freshTables addresses links deleters nodes processes; row = over (σ .row) row })
-    (listLeft addresses links deleters row (madeOf none))
+unfoldable pub freshList : State → ListLeft
+freshList σ =
+    let m = σ .memory in
+    cond (leb (m .processes) (length (σ .row)) && freshFits m)
+    (listLeft (stateOf (freshTables m .memory) (over (fresh (m .nodes) (m .processes) .row) (σ .row))) (freshTables m .answer))
+    (listLeft σ (madeOf none))

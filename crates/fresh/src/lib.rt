@@ -1,13 +1,15 @@
 // Lent tables and a lent row of records made fresh, or refused. Rests on the words.
 ghost use mathlib.Core.Path.{_≡_};
 ghost use mathlib.Core.List.{List};
-ghost use Prim.Native.Nat.{_≤_};
+ghost use Prim.Native.Nat.{ℕ, _≤_};
 ghost use lib.ListN.{length, replicate};
 ghost use Rattle.basics.specs.Over.{over};
 ghost use Rattle.record.specs.Record.{freshRecord};
 ghost use Rattle.record.specs.declared.Record.{Record};
 ghost use Rattle.table.specs.Words.{freshMemory};
-ghost use Rattle.fresh.specs.Fresh.{freshTables, tablesLeft, freshList, listLeft};
+ghost use Rattle.table.specs.Events.{stateOf};
+ghost use Rattle.words.specs.LentMemory.{lentMemory};
+ghost use Rattle.fresh.specs.Fresh.{freshSizes, freshTables, tablesLeft, freshList, listLeft};
 use record::Record;
 use record::TAIL;
 use words::Sizes;
@@ -33,7 +35,7 @@ fn clear(words: &mut [u32], n: usize)
 // Zeros, then head's link and tail's, both to tail.
 fn fresh_links(links: &mut [u32], nodes: usize)
     requires { ⌜ (2 ≤ nodes) × (nodes ≤ length (now links)) ⌝ }
-    ensures { λ _. ⌜ now (links .exit) ≡ over (freshMemory nodes .links) (now (links .entry)) ⌝ }
+    ensures { λ _. ⌜ ((processes : ℕ) → now (links .exit) ≡ over (freshMemory nodes processes .links) (now (links .entry))) ⌝ }
 {
     clear(links, nodes);
     let tail = words::link_word(TAIL, false);
@@ -49,8 +51,8 @@ pub fn fresh_tables(
     nodes: u32,
     processes: u32,
 ) -> Made
-    ensures { λ r. ⌜ tablesLeft (now (addresses .exit)) (now (links .exit)) (now (deleters .exit)) r ≡
-        freshTables (now (addresses .entry)) (now (links .entry)) (now (deleters .entry)) nodes processes ⌝ }
+    ensures { λ r. ⌜ tablesLeft (lentMemory (now (addresses .exit)) (now (links .exit)) (now (deleters .exit)) (freshSizes nodes processes)) r ≡
+        freshTables (lentMemory (now (addresses .entry)) (now (links .entry)) (now (deleters .entry)) (freshSizes nodes processes)) ⌝ }
 {
     let sizes = Sizes {
         nodes,
@@ -82,8 +84,9 @@ fn fresh_beside(
     processes: u32,
 ) -> Beside
     ensures { λ r. ⌜ (r .records ≤ records) × ((row : List Record) → length row ≡ records →
-        listLeft (now (addresses .exit)) (now (links .exit)) (now (deleters .exit)) (over (replicate (r .records) freshRecord) row) (r .answer) ≡
-        freshList (now (addresses .entry)) (now (links .entry)) (now (deleters .entry)) row nodes processes) ⌝ }
+        listLeft (stateOf (lentMemory (now (addresses .exit)) (now (links .exit)) (now (deleters .exit)) (freshSizes nodes processes))
+        (over (replicate (r .records) freshRecord) row)) (r .answer) ≡
+        freshList (stateOf (lentMemory (now (addresses .entry)) (now (links .entry)) (now (deleters .entry)) (freshSizes nodes processes)) row)) ⌝ }
 {
     if records < processes as usize {
         return Beside {
@@ -123,8 +126,11 @@ pub fn fresh_list(
     nodes: u32,
     processes: u32,
 ) -> Made
-    ensures { λ r. ⌜ listLeft (now (addresses .exit)) (now (links .exit)) (now (deleters .exit)) (now (row .exit)) r ≡
-        freshList (now (addresses .entry)) (now (links .entry)) (now (deleters .entry)) (now (row .entry)) nodes processes ⌝ }
+    ensures { λ r. ⌜
+        listLeft (stateOf (lentMemory (now (addresses .exit)) (now (links .exit)) (now (deleters .exit)) (freshSizes nodes processes))
+        (now (row .exit))) r ≡
+        freshList (stateOf (lentMemory (now (addresses .entry)) (now (links .entry)) (now (deleters .entry)) (freshSizes nodes processes))
+        (now (row .entry))) ⌝ }
 {
     let beside = fresh_beside(addresses, links, deleters, row.len(), nodes, processes);
     fresh_records(row, beside.records);

@@ -1,47 +1,35 @@
--- An event in a lent row, from the list's event on one record: the row too short, the process past the row, and its record in the row.
+-- An event in a lent row, from what the act on one record leaves: on the record of its process, and on any record where the process is past the
+-- process count. Rests on the table's laws of an event in a row (Meets).
 use mathlib.Core.Path.{_≡_, sym, ap, _∙_}
 use mathlib.Core.List.{List}
-use Prim.Native.Nat.{ℕ, _<_, _≤_}
-use lib.ListN.{length, set, getD, List·getD-eq-default}
-use lib.Seq.{set-out}
-use borrow.Author.Tests.{le-leb, lt-leb}
-use Rattle.record.specs.Record.{freshRecord}
-use Rattle.record.specs.Event.{processOf}
+use Prim.Native.Nat.{_≤_}
+use lib.ListN.{length, set}
 use Rattle.record.specs.declared.Record.{Record}
 use Rattle.record.specs.declared.Event.{Event}
-use Rattle.record.specs.declared.Outcome.the-variants.{Refused}
-use Rattle.table.specs.Events.{Leaves, event, stored, recordIn}
-use Rattle.words.specs.declared.Sizes.{Sizes}
-use Rattle.list.specs.declared.Acted.{Acted}
-use Rattle.list.specs.Acting.{Left, left, actOn}
-use Rattle.lent.specs.declared.Said.{Said}
+use Rattle.table.specs.Words.{Memory}
+use Rattle.table.specs.Events.{Left, act, State, stateOf, recordIn, leavesIn, stored, event}
+use Rattle.table.proofs.Laws.Meets.{event-in-row, event-left-by-nobody}
+use Rattle.words.specs.LentMemory.{sized}
+use Rattle.list.specs.Acting.{left}
 use Rattle.lent.specs.declared.Handed.{Handed}
-use Rattle.lent.specs.Lent.{actedOf, leaves, actIn}
+use Rattle.lent.specs.Lent.{actedOf}
 
--- what is said of an event, where the record is handed back
-abbrev saidOf : Acted → Said
-saidOf t = record { sizes = t .sizes; outcome = t .outcome }
+module _ (m : Memory) (row : List Record) (e : Event) (m′ : Memory) (t : Handed) (long : m .processes ≤ length row) where
+  abbrev σ : State
+  σ = stateOf m row
 
-module _ (a l d : List ℕ) (z : Sizes) (row : List Record) (e : Event) where
-  abbrev p : ℕ
-  p = processOf e .0
+  -- what was handed back is what the act on this record leaves
+  abbrev HandedOf : Record → Type 0
+  HandedOf r = left m′ (actedOf (t .advanced) (t .said)) ≡ act m (e .process) r (e .action)
 
-  pub short-row : length row < z .processes → leaves a l d row (record { sizes = z; outcome = Refused 7 }) ≡ actIn a l d z row e
-  unfolding event
-  short-row short = rw (lt-leb (z .processes) (length row) short)
+  -- the row afterwards, and what is said
+  abbrev LeavesRow : List Record → Type 0
+  LeavesRow row′ = leavesIn (stateOf (sized (t .said .sizes) m′) row′) (t .said .outcome) ≡ event σ e
 
-  -- what an event leaves of the row that it leaves the tables beside
-  abbrev beside : Left → Leaves
-  beside x = leaves (x .addresses) (x .links) (x .deleters) (set row p (x .answer .advanced)) (saidOf (x .answer))
+  pub in-row : HandedOf (recordIn σ (e .process)) → LeavesRow (set row (e .process .0) (t .advanced))
+  unfolding stored
+  in-row so = ap (stored σ (e .process)) so ∙ sym (event-in-row σ e long)
 
-  module _ (long : z .processes ≤ length row) (ads ls ds : List ℕ) (t : Handed) where
-    pub in-row : left ads ls ds (actedOf (t .advanced) (t .said)) ≡ actOn a l d z (getD row p freshRecord) e
-        → leaves ads ls ds (set row p (t .advanced)) (t .said) ≡ actIn a l d z row e
-    unfolding event stored recordIn actOn
-    in-row so = rw (le-leb (z .processes) (length row) long) (ap beside so)
-
-    pub past-row : length row ≤ p → left ads ls ds (actedOf (t .advanced) (t .said)) ≡ actOn a l d z freshRecord e
-        → leaves ads ls ds row (t .said) ≡ actIn a l d z row e
-    past-row past so =
-        ap (λ (rs : List Record). leaves ads ls ds rs (t .said)) (sym (set-out row p (t .advanced) past))
-        ∙ in-row (so ∙ ap (λ (r : Record). actOn a l d z r e) (sym (List·getD-eq-default row freshRecord past)))
+  pub past-count : m .processes ≤ e .process .0 → (r : Record) → HandedOf r → LeavesRow row
+  past-count past r so =
+      ap (λ (d : Left). leavesIn (stateOf (d .memory) row) (d .outcome)) so ∙ sym (event-left-by-nobody σ e long past r)

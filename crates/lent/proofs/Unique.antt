@@ -1,40 +1,37 @@
 -- The promise of each public function fixes its answer and every lent word and record afterwards: two outcomes that meet it are equal, part by part.
+-- Rests on the definitions' being functions alone.
 use mathlib.Core.Path.{_≡_, sym, _∙_}
 use mathlib.Core.List.{List}
-use Prim.Native.Nat.{ℕ}
+use Rattle.record.specs.declared.Process.{Process}
 use Rattle.record.specs.declared.Record.{Record}
+use Rattle.record.specs.declared.Action.{Action}
 use Rattle.record.specs.declared.Event.{Event}
 use Rattle.record.specs.declared.Outcome.{Outcome}
-use Rattle.words.specs.Lent.{sizesOf}
+use Rattle.table.specs.Words.{Memory}
+use Rattle.table.specs.Events.{act, stateOf, leavesIn, event}
+use Rattle.words.specs.LentMemory.{sized, sizesOf}
 use Rattle.words.specs.declared.Sizes.{Sizes}
-use Rattle.list.specs.Acting.{left, actOn}
+use Rattle.list.specs.Acting.{left}
 use Rattle.lent.specs.declared.Said.{Said}
-use Rattle.lent.specs.Lent.{actedOf, leaves, actIn}
+use Rattle.lent.specs.Lent.{actedOf}
 
 abbrev said : Sizes → Outcome → Said
 said sizes outcome = record { sizes = sizes; outcome = outcome }
 
-module _ (a l d a₁ l₁ d₁ a₂ l₂ d₂ : List ℕ) where
-  pub act-on-unique : (z : Sizes) (r r₁ r₂ : Record) (e : Event) (s₁ s₂ : Said)
-      → left a₁ l₁ d₁ (actedOf r₁ s₁) ≡ actOn a l d z r e → left a₂ l₂ d₂ (actedOf r₂ s₂) ≡ actOn a l d z r e
-      → (a₁ ≡ a₂) × (l₁ ≡ l₂) × (d₁ ≡ d₂) × (r₁ ≡ r₂) × (s₁ ≡ s₂)
-  act-on-unique z r r₁ r₂ e s₁ s₂ f g =
-      let same = f ∙ sym g in (
-        λ j. same j .addresses,
-        λ j. same j .links,
-        λ j. same j .deleters,
-        λ j. same j .answer .advanced,
-        λ j. said (same j .answer .sizes) (same j .answer .outcome),
-      )
+-- the memory lent, and the memories that two outcomes leave, with the sizes that are said
+module _ (m m₁ m₂ : Memory) (s₁ s₂ : Said) where
+  abbrev SameMemory : Type 0
+  SameMemory = sized (s₁ .sizes) m₁ ≡ sized (s₂ .sizes) m₂
 
-  pub act-in-unique : (z : Sizes) (row row₁ row₂ : List Record) (e : Event) (s₁ s₂ : Said)
-      → leaves a₁ l₁ d₁ row₁ s₁ ≡ actIn a l d z row e → leaves a₂ l₂ d₂ row₂ s₂ ≡ actIn a l d z row e
-      → (a₁ ≡ a₂) × (l₁ ≡ l₂) × (d₁ ≡ d₂) × (row₁ ≡ row₂) × (s₁ ≡ s₂)
-  act-in-unique z row row₁ row₂ e s₁ s₂ f g =
-      let same = f ∙ sym g in (
-        λ j. same j .after .memory .addresses,
-        λ j. same j .after .memory .links,
-        λ j. same j .after .memory .deleters,
-        λ j. same j .after .row,
-        λ j. said (sizesOf (same j .after)) (same j .outcome),
-      )
+  pub act-on-unique : (p : Process) (r r₁ r₂ : Record) (x : Action)
+      → left m₁ (actedOf r₁ s₁) ≡ act m p r x → left m₂ (actedOf r₂ s₂) ≡ act m p r x → SameMemory × (r₁ ≡ r₂) × (s₁ ≡ s₂)
+  act-on-unique p r r₁ r₂ x f g =
+      let same = f ∙ sym g in
+      (λ j. same j .memory, λ j. same j .advanced, λ j. said (sizesOf (same j .memory)) (same j .outcome))
+
+  pub act-in-unique : (row row₁ row₂ : List Record) (e : Event)
+      → leavesIn (stateOf (sized (s₁ .sizes) m₁) row₁) (s₁ .outcome) ≡ event (stateOf m row) e
+      → leavesIn (stateOf (sized (s₂ .sizes) m₂) row₂) (s₂ .outcome) ≡ event (stateOf m row) e → SameMemory × (row₁ ≡ row₂) × (s₁ ≡ s₂)
+  act-in-unique row row₁ row₂ e f g =
+      let same = f ∙ sym g in
+      (λ j. same j .after .memory, λ j. same j .after .row, λ j. said (sizesOf (same j .after .memory)) (same j .outcome))

@@ -1,10 +1,13 @@
 // The lent forms of an event: on a lent record, and in a lent row of records. Rests on the list.
 ghost use mathlib.Core.Path.{_≡_};
-ghost use Rattle.record.specs.Event.{processOf};
-ghost use Rattle.list.specs.Acting.{left, actOn};
-ghost use Rattle.lent.specs.Lent.{actedOf, leaves, actIn};
+ghost use Rattle.table.specs.Events.{act, stateOf, leavesIn, event as eventIn};
+ghost use Rattle.words.specs.LentMemory.{lentMemory};
+ghost use Rattle.list.specs.Acting.{left};
+ghost use Rattle.lent.specs.Lent.{actedOf};
+use record::Action;
 use record::Event;
 use record::Outcome;
+use record::Process;
 use record::Record;
 use words::Sizes;
 
@@ -26,13 +29,15 @@ fn hand_back(
     links: &mut [u32],
     deleters: &mut [u32],
     sizes: Sizes,
+    process: Process,
     old: Record,
-    event: Event,
+    action: Action,
 ) -> Handed
-    ensures { λ r. ⌜ left (now (addresses .exit)) (now (links .exit)) (now (deleters .exit)) (actedOf (r .advanced) (r .said)) ≡
-        actOn (now (addresses .entry)) (now (links .entry)) (now (deleters .entry)) sizes old event ⌝ }
+    ensures { λ r. ⌜
+        left (lentMemory (now (addresses .exit)) (now (links .exit)) (now (deleters .exit)) (r .said .sizes)) (actedOf (r .advanced) (r .said)) ≡
+        act (lentMemory (now (addresses .entry)) (now (links .entry)) (now (deleters .entry)) sizes) process old action ⌝ }
 {
-    let acted = list::act(addresses, links, deleters, sizes, old, event);
+    let acted = list::act(addresses, links, deleters, sizes, process, old, action);
     let advanced = acted.advanced;
     let after = acted.sizes;
     let outcome = acted.outcome;
@@ -49,25 +54,21 @@ pub fn act_on(
     links: &mut [u32],
     deleters: &mut [u32],
     sizes: Sizes,
+    process: Process,
     record: &mut Record,
-    event: Event,
+    action: Action,
 ) -> Said
-    ensures { λ r. ⌜ left (now (addresses .exit)) (now (links .exit)) (now (deleters .exit)) (actedOf (now («record» .exit)) r) ≡
-        actOn (now (addresses .entry)) (now (links .entry)) (now (deleters .entry)) sizes (now («record» .entry)) event ⌝ }
+    ensures { λ r. ⌜
+        left (lentMemory (now (addresses .exit)) (now (links .exit)) (now (deleters .exit)) (r .sizes)) (actedOf (now («record» .exit)) r) ≡
+        act (lentMemory (now (addresses .entry)) (now (links .entry)) (now (deleters .entry)) sizes) process (now («record» .entry)) action ⌝ }
 {
-    let handed = hand_back(addresses, links, deleters, sizes, *record, event);
+    let handed = hand_back(addresses, links, deleters, sizes, process, *record, action);
     *record = handed.advanced;
     handed.said
 }
 
-// The index of the record of the event's process in a row.
-fn index_of(event: Event) -> usize
-    ensures { λ r. ⌜ r ≡ processOf event .0 ⌝ }
-{
-    list::process_of(event).0 as usize
-}
-
-// One event in a lent row: the record of its process is replaced, the others stay. A process past the row has no record, and is refused.
+// One event in a lent row: the record of its process is replaced, the others stay. A process past the process count is refused, and no record is
+// read or stored for it.
 pub fn act_in(
     addresses: &mut [u32],
     links: &mut [u32],
@@ -76,8 +77,9 @@ pub fn act_in(
     row: &mut [Record],
     event: Event,
 ) -> Said
-    ensures { λ r. ⌜ leaves (now (addresses .exit)) (now (links .exit)) (now (deleters .exit)) (now (row .exit)) r ≡
-        actIn (now (addresses .entry)) (now (links .entry)) (now (deleters .entry)) sizes (now (row .entry)) event ⌝ }
+    ensures { λ r. ⌜
+        leavesIn (stateOf (lentMemory (now (addresses .exit)) (now (links .exit)) (now (deleters .exit)) (r .sizes)) (now (row .exit))) (r .outcome) ≡
+        eventIn (stateOf (lentMemory (now (addresses .entry)) (now (links .entry)) (now (deleters .entry)) sizes) (now (row .entry))) event ⌝ }
 {
     let processes = sizes.processes;
     if row.len() < processes as usize {
@@ -86,12 +88,23 @@ pub fn act_in(
             outcome: Outcome::Refused(7),
         };
     }
-    let at = index_of(event);
-    if row.len() <= at {
-        let handed = hand_back(addresses, links, deleters, sizes, Record::fresh(), event);
+    let process = event.process;
+    let action = event.action;
+    let number = process.0;
+    if processes <= number {
+        let handed = hand_back(
+            addresses,
+            links,
+            deleters,
+            sizes,
+            process,
+            Record::fresh(),
+            action,
+        );
         return handed.said;
     }
-    let handed = hand_back(addresses, links, deleters, sizes, row[at], event);
+    let at = number as usize;
+    let handed = hand_back(addresses, links, deleters, sizes, process, row[at], action);
     row[at] = handed.advanced;
     handed.said
 }

@@ -1,4 +1,4 @@
--- The call of `Record::fresh`, as one rule: it needs nothing, and what it gives is the fresh record.
+-- The call of `Record::fresh`, as one rule: it needs nothing, and what it gives is the fresh record. Rests on Calls.
 use Rattle.walks.proofs.Kit.{_≡_, sym, subst, [], _∷_, List, URA, Place, Body, seq, call, SProp, ent, id⊢, Memory, Routine, Heap, Calls, Loops}
 use Rattle.walks.proofs.Kit.{Env, Atoms, Fun, Given, Item, Post, Sq, runs, lands, ⋆, _$_, _∵_, !, qed, move, drop, join, done, FmC, Is}
 use Rattle.walks.proofs.Kit.{nothing, Contract, Triple, no-more}

@@ -1,5 +1,5 @@
 -- The locals of a walked function: all taken at once and freed at once, where each stands in the context, and the parts of the function's body.
--- Locals are had the last first, two entries each: the cell, then the right to free it.
+-- Locals are had the last first, two entries each: the cell, then the right to free it. Rests on the logic's steps for locals.
 use Rattle.walks.proofs.Kit.{refl, ℕ, zero, suc, _+_, _*_, _-_, [], _∷_, List, _++_, URA, fullShare, Ty, Local, local, tyUnit, Body, skip, seq}
 use Rattle.walks.proofs.Kit.{assign, block, loop, cond, switch, exit, return, call, Val, fat, froom, fdies, Heap, Env, Atoms, Given, Item}
 use Rattle.walks.proofs.Kit.{Goal, Seq, frees, allocs, ‵, _$_, forget, alloc1, alloc0, free1, free0}

@@ -1,9 +1,13 @@
--- The three lent tables in a walk: as parameters, as what a walk has of them, and the steps that walks over them take, whatever else there is.
--- Rests on the logic's steps, and on `Rows` for a table that was not touched.
-use Rattle.walks.proofs.Kit.{Slot, AllWithin, plain, mutSliceOf, sep, Fml, fsep, feq, sem, Goal, Seq, Step, step, cut, prop, mean, ℕ, _≡_, []}
-use Rattle.walks.proofs.Kit.{_∷_, List, length, URA, named, Val, id⊢, emp, Lft, Lfts, Share, Shares, ftrue, flft, Heap, Atoms, Given, Item, ‵}
-use Rattle.walks.proofs.Kit.{_⊛_, _$_, move, split, join, fsplit, fsplit3, fjoin, feqL, done, nothing, u32, RefT, slice-vals, MutSlice}
-use Rattle.walks.proofs.Kit.{finally, yes}
+-- The lent tables in a walk: as parameters, as what a walk has of them, and the steps that walks over them take, whatever else there is. A walk
+-- names no table by itself: what it knows of their words is a memory. Rests on the logic's steps, on `Rows` for a table that was not touched, and on
+-- `lentMemory`.
+use Rattle.walks.proofs.Kit.{Slot, AllWithin, plain, mutSliceOf, sep, Fml, fsep, feq, sem, Goal, Seq, Step, step, cut, prop, mean, ℕ, _≡_}
+use Rattle.walks.proofs.Kit.{refl, [], _∷_, List, length, URA, named, Val, id⊢, emp, Lft, Lfts, Share, Shares, ftrue, flft, Heap, Atoms, Given}
+use Rattle.walks.proofs.Kit.{Item, ‵, _⊛_, _$_, move, split, join, fsplit, fsplit3, fjoin, feqL, done, nothing, u32, RefT, slice-vals}
+use Rattle.walks.proofs.Kit.{MutSlice, finally, yes}
+use Rattle.table.specs.Words.{Memory}
+use Rattle.words.specs.declared.Sizes.{Sizes}
+use Rattle.words.specs.LentMemory.{lentMemory}
 use Rattle.walks.proofs.Parameters.{Parameter, slice-passed-on}
 use Rattle.walks.proofs.Rows.{given-up}
 
@@ -17,7 +21,7 @@ abbrev pub after-tables : (n : ℕ) {X : Type 2} (ok₀ : AllWithin n (0 ∷ [])
     × (Parameter {n = n} (mutSliceOf (1 ∷ []) ok₁ words) yes × (Parameter {n = n} (mutSliceOf (2 ∷ []) ok₂ words) yes × X))
 after-tables n ok₀ ok₁ ok₂ others = (slice-passed-on 0 ok₀ words, (slice-passed-on 1 ok₁ words, (slice-passed-on 2 ok₂ words, others)))
 
--- the three: their lifetimes, a share of each, and the references
+-- the tables: their lifetimes, a share of each, and the references
 pub record LentTables : Type 0 where
   pub κs : Lfts 3
   pub qs : Shares 3
@@ -40,11 +44,30 @@ lent-tables κs qs a = record {
 abbrev pub values-of-tables : {X : Type 0} → LentTables → X → List Val × (List Val × (List Val × X))
 values-of-tables ts others = (slice-vals (ts .addresses), (slice-vals (ts .links), (slice-vals (ts .deleters), others)))
 
--- of each table there are as many last words (ads, ls, ds) as there were words
-pub record SameLengths (ts : LentTables) (ads ls ds : List ℕ) : Type 0 where
-  pub addresses : length ads ≡ length (ts .addresses .now)
-  pub links : length ls ≡ length (ts .links .now)
-  pub deleters : length ds ≡ length (ts .deleters .now)
+-- the tables as they are lent, with these sizes, and as a function's last values have them
+abbrev pub memory-lent : LentTables → Sizes → Memory
+memory-lent ts sizes = lentMemory (ts .addresses .now) (ts .links .now) (ts .deleters .now) sizes
+
+abbrev pub memory-last : {X : Type 0} → List ℕ × (List ℕ × (List ℕ × X)) → Sizes → Memory
+memory-last ws sizes = lentMemory (ws .0) (ws .1 .0) (ws .1 .1 .0) sizes
+
+-- the words of a memory as a function's last values, then others
+abbrev pub last-values : {X : Type 0} → Memory → X → List ℕ × (List ℕ × (List ℕ × X))
+last-values m others = (m .addresses, (m .links, (m .deleters, others)))
+
+-- a memory has as many words of each table as are lent
+pub record SameLengths (ts : LentTables) (m : Memory) : Type 0 where
+  pub addresses : length (m .addresses) ≡ length (ts .addresses .now)
+  pub links : length (m .links) ≡ length (ts .links .now)
+  pub deleters : length (m .deleters) ≡ length (ts .deleters .now)
+
+pub lent-same : (ts : LentTables) (sizes : Sizes) → SameLengths ts (memory-lent ts sizes)
+lent-same ts sizes = record { addresses = refl; links = refl; deleters = refl }
+
+-- so the last values fit, if others do
+abbrev pub fitting : {X : Type 0} {ts : LentTables} {m : Memory} → SameLengths ts m → X → (length (m .addresses) ≡ length (ts .addresses .now))
+    × ((length (m .links) ≡ length (ts .links .now)) × ((length (m .deleters) ≡ length (ts .deleters .now)) × X))
+fitting same others = (same .addresses, (same .links, (same .deleters, others)))
 
 -- what owns a table
 abbrev Own : ℕ → Lft → RefT (List ℕ) → Fml
@@ -74,13 +97,14 @@ module _ {M : Type 1} (𝓤 : URA M) (ts : LentTables) where
       Lifetimes (‵ (Own 0 (ts .κs .0) (ts .addresses)) ∷ ‵ (Own 1 (ts .κs .1 .0) (ts .links)) ∷ ‵ (Own 2 (ts .κs .1 .1 .0) (ts .deleters)) ∷ Γ)
 
   -- before Γ: the last words of the deleters, the links and the addresses
-  abbrev LastWords : (addresses links deleters : List ℕ) → List (Item 𝓤) → List (Item 𝓤)
-  LastWords addresses links deleters Γ =
-      ‵ (finally u32 (ts .deleters .name) deleters) ∷ ‵ (finally u32 (ts .links .name) links) ∷ ‵ (finally u32 (ts .addresses .name) addresses) ∷ Γ
+  abbrev LastWords : Memory → List (Item 𝓤) → List (Item 𝓤)
+  LastWords m Γ =
+      ‵ (finally u32 (ts .deleters .name) (m .deleters)) ∷ ‵ (finally u32 (ts .links .name) (m .links))
+      ∷ ‵ (finally u32 (ts .addresses .name) (m .addresses)) ∷ Γ
 
   -- before Γ: the lifetimes, then the last words
-  abbrev pub Last : (addresses links deleters : List ℕ) → List (Item 𝓤) → List (Item 𝓤)
-  Last addresses links deleters Γ = Tokens (‵ ftrue) ∷ LastWords addresses links deleters Γ
+  abbrev pub Last : Memory → List (Item 𝓤) → List (Item 𝓤)
+  Last m Γ = Tokens (‵ ftrue) ∷ LastWords m Γ
 
 module _ {M : Type 1} {𝓤 : URA M} {H : Heap 𝓤} {A : Atoms 𝓤} {K : Type 0} {W : Given 𝓤 H A} where
   module _ {Γ : List (Item 𝓤)} {G : Goal 𝓤 H} (t : K) (ts : LentTables) where
@@ -107,29 +131,28 @@ module _ {M : Type 1} {𝓤 : URA M} {H : Heap 𝓤} {A : Atoms 𝓤} {K : Type 
         tokens-apart t ts $ move t (4 ∷ []) $ fsplit3 t $ move t (2 ∷ []) $ fsplit t $ move t (4 ∷ 5 ∷ 6 ∷ 2 ∷ 3 ∷ 0 ∷ 7 ∷ 1 ∷ []) $ s)
 
     -- where they were not touched, their last words are their words
-    pub untouched : K → (ts : LentTables)
-        → Step K W (Last 𝓤 ts (ts .addresses .now) (ts .links .now) (ts .deleters .now) Γ) G (Lent 𝓤 ts Γ) G
-    untouched t ts = step (λ s.
+    pub untouched : K → (ts : LentTables) (sizes : Sizes) → Step K W (Last 𝓤 ts (memory-lent ts sizes) Γ) G (Lent 𝓤 ts Γ) G
+    untouched t ts sizes = step (λ s.
         move t (3 ∷ []) $ given-up t (named 0) (ts .κs .0) u32 (ts .addresses) _ $
         move t (4 ∷ []) $ given-up t (named 1) (ts .κs .1 .0) u32 (ts .links) _ $
         move t (5 ∷ []) $ given-up t (named 2) (ts .κs .1 .1 .0) u32 (ts .deleters) _ $
         nothing t $ move t (4 ∷ 5 ∷ 6 ∷ 0 ∷ []) $ tokens-together t ts $ s)
 
     -- after a call to which they were passed on: their last words, as many as there were
-    pub last-words : K → (ts : LentTables) {addresses links deleters : List ℕ} {P : Fml}
-        → (SameLengths ts addresses links deleters → Seq K W (LastWords 𝓤 ts addresses links deleters (‵ P ∷ Γ)) G)
-        → Seq K W (‵ (fsep (lastly (ts .addresses) addresses) (fsep (lastly (ts .links) links) (fsep (lastly (ts .deleters) deleters) P))) ∷ Γ) G
-    last-words t ts k =
+    pub last-words : K → (ts : LentTables) (m : Memory) {P : Fml} → (SameLengths ts m → Seq K W (LastWords 𝓤 ts m (‵ P ∷ Γ)) G)
+        → Seq K W (‵ (fsep (lastly (ts .addresses) (m .addresses))
+        (fsep (lastly (ts .links) (m .links)) (fsep (lastly (ts .deleters) (m .deleters)) P))) ∷ Γ) G
+    last-words t ts m k =
         fsplit t $ fsplit t $ move t (1 ∷ []) $ feqL t (λ a. move t (1 ∷ []) $ fsplit t $ fsplit t $ move t (1 ∷ []) $ feqL t (λ l.
         move t (1 ∷ []) $ fsplit t $ fsplit t $ move t (1 ∷ []) $ feqL t (λ d. move t (0 ∷ 2 ∷ 3 ∷ 1 ∷ []) $
         k (record { addresses = a; links = l; deleters = d }))))
 
     -- at exit: the last words, together with the others
-    pub last-together : K → (ts : LentTables) {addresses links deleters : List ℕ} {P : Fml}
-        → Step K W (‵ (fsep (finally u32 (ts .addresses .name) addresses)
-        (fsep (finally u32 (ts .links .name) links) (fsep (finally u32 (ts .deleters .name) deleters) P))) ∷ Γ) G
-        (‵ P ∷ LastWords 𝓤 ts addresses links deleters Γ) G
-    last-together t ts = step (λ s. move t (1 ∷ 0 ∷ []) $ fjoin t $ move t (1 ∷ 0 ∷ []) $ fjoin t $ move t (1 ∷ 0 ∷ []) $ fjoin t $ s)
+    pub last-together : K → (ts : LentTables) (m : Memory) {P : Fml}
+        → Step K W (‵ (fsep (finally u32 (ts .addresses .name) (m .addresses))
+        (fsep (finally u32 (ts .links .name) (m .links)) (fsep (finally u32 (ts .deleters .name) (m .deleters)) P))) ∷ Γ) G
+        (‵ P ∷ LastWords 𝓤 ts m Γ) G
+    last-together t ts m = step (λ s. move t (1 ∷ 0 ∷ []) $ fjoin t $ move t (1 ∷ 0 ∷ []) $ fjoin t $ move t (1 ∷ 0 ∷ []) $ fjoin t $ s)
 
   -- what a callee asks that takes the tables first and requires nothing
   pub asked : K → (ts : LentTables) {X : Item 𝓤} {P : Fml}

@@ -1,4 +1,4 @@
--- Tables that fit are read; else nothing is changed.
+-- Tables that fit are read; else nothing is changed. Rests on Reading.
 use borrow.Author.Needs.{needs}
 use Rattle.chain.proofs.Reading.{keys-read, keys-refused}
 use Rattle.chain.proofs.chain_addresses.Statement.{statement}

@@ -1,4 +1,4 @@
--- What `judge` says of the words that were read is what the walk meets.
+-- What `judge` says of the words that were read is what lies ahead. Rests on Walks.
 use Rattle.chain.proofs.Walks.{onward-told}
 use borrow.Author.Needs.{needs}
 use Rattle.chain.proofs.onward.Statement.{statement}
@@ -23,7 +23,7 @@ judge-requires : tie.Need-judge-requires
 judge-requires c κs = search needs
 
 returns : tie.Need-returns
-returns c = search (needs, onward-told)
+returns c m = search (needs, onward-told)
 
 pub onward-spec : {M : Type 1} → statement M
 onward-spec =

@@ -1,4 +1,4 @@
--- `clear` writes one word after another: after i of them i zeros are laid over what was lent.
+-- `clear` writes one word after another: after i of them i zeros are laid over what was lent. Rests on Over.
 use mathlib.Core.Path.{_≡_, ap, _∙_}
 use Prim.Native.Nat.{ℕ, _≤_, _-_}
 use mathlib.Core.List.{List}

@@ -1,4 +1,5 @@
--- A row too short, tables that were refused, tables made fresh: what is left to do of the row makes it what the whole promises.
+-- A row too short, tables that were refused, tables made fresh: what is left to do of the row makes it what the whole promises. Rests on
+-- Freshness.
 use native.Mathlib.Omega.{arith}
 use borrow.Author.Needs.{needs}
 use Rattle.fresh.proofs.Freshness.{row-refused, list-refused, list-laid}
@@ -6,7 +7,7 @@ use Rattle.fresh.proofs.fresh_beside.Statement.{statement}
 use Rattle.fresh.proofs.fresh_beside.Tie as tie
 
 returns : tie.Need-returns
-returns c = (search needs, λ row e. row-refused _ _ _ row _ _ (omega arith))
+returns c = (search needs, λ row e. row-refused _ row (omega arith))
 
 fresh-tables-requires : tie.Need-fresh-tables-requires
 fresh-tables-requires c κs = search needs
@@ -28,8 +29,7 @@ same-length-3 c = search needs
 
 returns-2 : tie.Need-returns-2
 returns-2 c =
-    let call = c .before .before .before .before .before .before .before .before in
-    (search needs, λ row e. list-refused _ _ _ row _ _ _ _ _ _ (omega arith) (call .fresh-tables .ensures) _ (c .enum-told .given .1))
+    (search needs, λ row e. list-refused _ row _ _ (omega arith) (search needs) _ (c .enum-told .given .1))
 
 same-length-4 : tie.Need-same-length-4
 same-length-4 c = search needs
@@ -42,8 +42,7 @@ same-length-6 c = search needs
 
 returns-3 : tie.Need-returns-3
 returns-3 c =
-    let call = c .before .before .before .before .before .before .before .before in
-    (search needs, λ row e. list-laid _ _ _ row _ _ _ _ _ _ (omega arith) (call .fresh-tables .ensures) _ (c .enum-told2 .given .1))
+    (search needs, λ row e. list-laid _ row _ _ (omega arith) (search needs) _ (c .enum-told2 .given .1))
 
 pub fresh-beside-spec : {M : Type 1} → statement M
 fresh-beside-spec =

@@ -1,4 +1,4 @@
--- Zeros, then the two links: what is laid over the links is a fresh list's.
+-- Zeros, then the two links: what is laid over the links is a fresh list's. Rests on Freshness.
 use native.Mathlib.Omega.{arith}
 use lib.ListN.{length-set}
 use Rattle.fresh.proofs.Freshness.{links-laid}
@@ -22,7 +22,7 @@ same-length : tie.Need-same-length
 same-length c = search needs
 
 returns : tie.Need-returns
-returns c = rw (c .link-word .ensures, c .before .before .before .clear .ensures) (links-laid _ _ (search needs))
+returns c processes = rw (c .before .before .before .clear .ensures) (links-laid _ _ processes _ (c .link-word .ensures) (search needs))
 
 pub fresh-links-spec : {M : Type 1} → statement M
 fresh-links-spec =

@@ -11,14 +11,18 @@ use Rattle.walks.proofs.Operands.{at-local, copied, field-of, lends-on}
 use Rattle.walks.proofs.Values.{typed-as, ByValue, IsA, of-struct, of-enum, of-width, with-value, answers}
 use Rattle.walks.proofs.Calls.{Met, calls-met}
 use Rattle.walks.proofs.Parameters.{given, slice-passed-on, Parameters, Told, Ends, ends, Walk, meets-by-walk, tables-over, cites, enters}
-use Rattle.walks.proofs.Tables.{after-tables, values-of-tables, LentTables, lent-tables, SameLengths, Lent, Last, tables-apart, token-in, last-words}
-use Rattle.walks.proofs.Tables.{last-together, asked}
+use Rattle.walks.proofs.Tables.{after-tables, values-of-tables, LentTables, lent-tables, memory-lent, memory-last, last-values, SameLengths, fitting}
+use Rattle.walks.proofs.Tables.{Lent, Last, tables-apart, token-in, last-words, last-together, asked}
 use denote.Struct.Laws as struct
 use Rattle.record.specs.Record.{freshRecord}
 use Rattle.record.specs.declared.Record.{Record}
 use Rattle.basics.specs.Over.{over}
 use Rattle.fresh.specs.declared.Beside.{Beside}
-use Rattle.fresh.specs.Fresh.{listLeft, freshList}
+use Rattle.table.specs.Words as words
+use Rattle.table.specs.Events.{stateOf}
+use Rattle.words.specs.declared.Sizes.{Sizes}
+use Rattle.words.specs.LentMemory.{sized}
+use Rattle.fresh.specs.Fresh.{freshSizes, listLeft, freshList}
 use Rattle.fresh.proofs.Beside as beside
 use Rattle.fresh.proofs.Beside.Laws as beside-laws
 use Rattle.fresh.proofs.Made as made
@@ -78,6 +82,9 @@ module _ {M : Type 1} (𝓤 : URA M) (H : Heap 𝓤) (A : Atoms 𝓤) (W : Given
   abbrev processes : ℕ
   processes = a .1 .1 .1 .1 .1 .0
 
+  abbrev sizes : Sizes
+  sizes = freshSizes nodes processes
+
   abbrev row-fits : length (x .now) < 2 ^ 64
   row-fits = are .1 .1 .1 .0 .0 .1 .0
 
@@ -91,26 +98,25 @@ module _ {M : Type 1} (𝓤 : URA M) (H : Heap 𝓤) (A : Atoms 𝓤) (W : Given
   Result = Ends fn.ended params 𝓤 H A (fn.clauses 𝓤 H A at-mem run) κs qs tt a tt
 
   -- what `fresh_beside` promises, and what is left to `fresh_records`
-  abbrev Promise : Beside → (addresses links deleters : List ℕ) → Type 0
-  Promise t ads ls ds = (t .records ≤ length (x .now))
+  abbrev Promise : Beside → words.Memory → Type 0
+  Promise t m = (t .records ≤ length (x .now))
       × ((row : List Record) → length row ≡ length (x .now)
-      → listLeft ads ls ds (over (replicate (t .records) freshRecord) row) (t .answer)
-      ≡ freshList (ts .addresses .now) (ts .links .now) (ts .deleters .now) row nodes processes)
+      → listLeft (stateOf m (over (replicate (t .records) freshRecord) row)) (t .answer) ≡ freshList (stateOf (memory-lent ts sizes) row))
 
-  module _ (t : Beside) (ads ls ds : List ℕ) (rs : List Record) where
+  module _ (t : Beside) (m : words.Memory) (rs : List Record) where
     abbrev Given-up : List (Item 𝓤)
-    Given-up = ‵ (flft (κs .1 .1 .1 .0) (qs .1 .1 .1 .0)) ∷ ‵ (finally R (x .name) rs) ∷ Last 𝓤 ts ads ls ds []
+    Given-up = ‵ (flft (κs .1 .1 .1 .0) (qs .1 .1 .1 .0)) ∷ ‵ (finally R (x .name) rs) ∷ Last 𝓤 ts m []
 
-    exits : IsA made-values (t .answer) → Promise t ads ls ds → rs ≡ over (replicate (t .records) freshRecord) (x .now)
-        → SameLengths ts ads ls ds → length rs ≡ length (x .now) → ent 𝓤 (⋆ 𝓤 H A Given-up) (Result (made-values .val (t .answer)))
+    exits : IsA made-values (t .answer) → Promise t (sized sizes m) → rs ≡ over (replicate (t .records) freshRecord) (x .now)
+        → SameLengths ts m → length rs ≡ length (x .now) → ent 𝓤 (⋆ 𝓤 H A Given-up) (Result (made-values .val (t .answer)))
     exits is e f same len =
         qed W Given-up ∵ suffices ! _ (ends fn.ended params 𝓤 H A (fn.clauses 𝓤 H A at-mem run) κs qs tt a tt W _ (t .answer)
-        (ads, (ls, (ds, (rs, (tt, (tt, tt)))))) (same .addresses, (same .links, (same .deleters, (len, (tt, (tt, tt))))))) $
-        says ! (ap (λ (zs : List Record). listLeft ads ls ds zs (t .answer)) f ∙ e .1 (x .now) refl) $
+        (last-values m (rs, (tt, (tt, tt)))) (fitting same (len, (tt, (tt, tt))))) $
+        says ! (ap (λ (zs : List Record). listLeft (stateOf (sized sizes m) zs) (t .answer)) f ∙ e .1 (x .now) refl) $
         move ! (2 ∷ 0 ∷ []) $ token-in ! ts $ frame ! $
-        -- [the last row; the last deleters; the last links; the last addresses]
+        -- [the last row; the last words]
         nothing ! $ with-value ! (of-width w32) processes (refl, processes-fit) $ with-value ! (of-width w32) nodes (refl, nodes-fit) $
-        move ! (1 ∷ 0 ∷ []) $ fjoin ! $ last-together ! ts $ answers ! made-values (t .answer) is
+        move ! (1 ∷ 0 ∷ []) $ fjoin ! $ last-together ! ts m $ answers ! made-values (t .answer) is
 
   -- ---- the call of `fresh_beside`
   abbrev to-beside : Besides 𝓤 H A at-mem run .Ghost
@@ -164,11 +170,11 @@ module _ {M : Type 1} (𝓤 : URA M) (H : Heap 𝓤) (A : Atoms 𝓤) (W : Given
       lends-on ! (at 8 3) (at 8 12) (at 8 13) (are .1 .1 .0 .0 .1 .0) refl refl refl refl refl tt refl refl refl tt $
       assigns ! (of-opd ! (field-of ! (at 8 4) 1 refl refl refl)) (at-local !) (init ! (at 8 14) refl (tt, record { fits = row-fits })) $
       calls-met 𝓤 H A fresh-beside.ended (fresh-beside.clauses 𝓤 H A at-mem run) W to-beside (Lent 𝓤 ts []) (beside-values .val)
-      (λ t zs. Promise t (zs .0) (zs .1 .0) (zs .1 .1 .0)) asks-beside (beside-values .tells) (λ t zs. id⊢ 𝓤 _) fm known-beside
+      (λ t zs. Promise t (memory-last zs sizes)) asks-beside (beside-values .tells) (λ t zs. id⊢ 𝓤 _) fm known-beside
       (and-then ! (copied ! (at 3 9) refl) (and-then ! (copied ! (at 3 11) refl) (and-then ! (copied ! (at 3 13) refl)
       (and-then ! (copied ! (at 3 14) refl) (and-then ! (copied ! (at 3 5) refl) (and-then ! (copied ! (at 3 6) refl) (no-more !)))))))
-      (λ t zs e is. last-words ! ts (λ same. move ! (3 ∷ []) $ drop ! $ move ! (4 ∷ 5 ∷ 3 ∷ []) $
-      -- [κ₃; the row's; the tokens; the last deleters; the last links; the last addresses; _17 …]
+      (λ t zs e is. last-words ! ts (memory-last zs sizes) (λ same. move ! (3 ∷ []) $ drop ! $ move ! (4 ∷ 5 ∷ 3 ∷ []) $
+      -- [κ₃; the row's; the tokens; the last words; _17 …]
       land ! (at-local !) (init ! (at 6 7) refl (typed-as W beside-values t is)) $
       lends-on ! (at 6 4) (at 6 16) (at 6 17) row-fits refl refl refl refl refl tt refl refl refl tt $
       calls-met 𝓤 H A fresh-records.ended (fresh-records.clauses 𝓤 H A at-mem run) W (to-records (t .records) (counted t is)) Row (λ _. vunit)
@@ -176,14 +182,14 @@ module _ {M : Type 1} (𝓤 : URA M) (H : Heap 𝓤) (A : Atoms 𝓤) (W : Given
       (asks-records (t .records) (counted t is) (e .0)) (λ _ vs is. is) (λ _ rs. id⊢ 𝓤 _) fm known-records
       (and-then ! (copied ! (at 5 17) refl) (and-then ! (field-of ! (at 5 7) 0 refl refl refl) (no-more !))) (λ _ rs f _.
       fsplit ! $ fsplit ! $ move ! (1 ∷ []) $ feqL ! (λ len. move ! (1 ∷ []) $ drop ! $ move ! (1 ∷ []) $ split ! $ move ! (1 ∷ []) $ drop ! $
-      -- [κ₃; the last row; the tokens; the last deleters; the last links; the last addresses; _17 …]
+      -- [κ₃; the last row; the tokens; the last words; _17 …]
       land ! (at-local !) (init ! (at 6 15) refl (tt, tt)) $
       assigns ! (of-opd ! (field-of ! (at 6 7) 1 refl refl refl)) (at-local !)
       (init ! (at 6 0) refl (typed-as W made-values (t .answer) (answer-is t is))) $
       returns ! {Kf = Result} (look ! (at 6 0) refl) $ keep ! (leaving 18 6) $
       releases ! En (holds _ ∷ holds _ ∷ holds _ ∷ holds _ ∷ holds _ ∷ holds _ ∷ holds _ ∷ holds _ ∷ holds _ ∷ holds _ ∷ holds _ ∷ holds _
       ∷ holds _ ∷ holds _ ∷ holds _ ∷ holds _ ∷ holds _ ∷ holds _ ∷ []) (
-      by ! (exits t (zs .0) (zs .1 .0) (zs .1 .1 .0) (rs .0) (answer-is t is) e f same len))))))
+      by ! (exits t (memory-last zs sizes) (rs .0) (answer-is t is) e f same len))))))
 
 meets : {M : Type 1} (𝓤 : URA M) (H : Heap 𝓤) (A : Atoms 𝓤) → Given 𝓤 H A → (at-mem : Memory → SProp 𝓤) (run : Routine → Fun 𝓤) (𝓣 : Tables 𝓤 H)
     → Triple 𝓤 (𝓣 .C #beside) (Besides 𝓤 H A at-mem run) → Triple 𝓤 (𝓣 .C #records) (Freshens 𝓤 H A at-mem run)

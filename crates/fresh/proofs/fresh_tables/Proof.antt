@@ -1,6 +1,6 @@
--- Tables that fit are long enough, and the words laid are a fresh list's; where they do not, nothing is changed.
+-- Tables that fit are long enough, and the words laid are a fresh list's; where they do not, nothing is changed. Rests on Freshness.
 use borrow.Author.Needs.{needs}
-use Rattle.fresh.proofs.Freshness.{room, words-laid, tables-refused}
+use Rattle.fresh.proofs.Freshness.{two-nodes, addresses-long, links-long, deleters-long, words-laid, tables-refused}
 use Rattle.fresh.proofs.fresh_tables.Statement.{statement}
 use Rattle.fresh.proofs.fresh_tables.Tie as tie
 
@@ -8,18 +8,18 @@ tables-fit-requires : tie.Need-tables-fit-requires
 tables-fit-requires c κs = search needs
 
 clear-requires : tie.Need-clear-requires
-clear-requires c κs =
-    let test = c .before in room _ _ _ _ _ _ (test .before .tables-fit .ensures) (test .if1 .taken) .addresses
+clear-requires c κs = search (needs, addresses-long)
 
 fresh-links-requires : tie.Need-fresh-links-requires
-fresh-links-requires c κs =
-    let test = c .before .before .before .before .before in
-    let has = room _ _ _ _ _ _ (test .before .tables-fit .ensures) (test .if1 .taken) in (has .most, has .links)
+fresh-links-requires c κs = (search (needs, two-nodes), search (needs, links-long))
 
 clear-requires-2 : tie.Need-clear-requires-2
 clear-requires-2 c κs =
-    let test = c .before .before .before .before .before .before .before .before .before in
-    room _ _ _ _ _ _ (test .before .tables-fit .ensures) (test .if1 .taken) .deleters
+    let linked = c .before .before in
+    let cleared = linked .before .before in
+    let fitting = cleared .before .before .before in
+    let test = fitting .before .before in
+    deleters-long _ _ _ _ _ _ (test .before .tables-fit .ensures) (test .if1 .taken)
 
 same-length : tie.Need-same-length
 same-length c = search needs

@@ -1,4 +1,4 @@
--- The parts handed back are those of what the list's event answers.
+-- The parts handed back are those of what the list's event answers. Rests on its promise alone.
 use borrow.Author.Needs.{needs}
 use Rattle.lent.proofs.hand_back.Statement.{statement}
 use Rattle.lent.proofs.hand_back.Tie as tie

@@ -18,7 +18,7 @@ use Rattle.record.specs.declared.Outcome.the-variants.{Refused, Accepted}
 use Rattle.table.specs.Words.{Memory, givenOut, nextNode, noneLeft, written}
 use Rattle.table.specs.Steps.{turnIn}
 use Rattle.table.specs.Events.{Left, leaving, refused, step, does, statusNeeded, tablesFit, act, State, recordIn, Leaves, leavesIn}
-use Rattle.table.specs.Events.{stored, event}
+use Rattle.table.specs.Events.{stateOf, stored, event}
 use Rattle.basics.proofs.Tests.{if, if-le, by-test}
 
 -- an action on the record alone: the memory stays, and it is accepted
@@ -127,13 +127,21 @@ module _ (σ : State) (e : Event) where
   event-in-short-row short = rw (lt-leb (σ .memory .processes) (length (σ .row)) short)
 
   -- of a process that is not there, whatever record it is worked on: nothing is stored
-  pub event-of-nobody : σ .memory .processes ≤ length (σ .row) → σ .memory .processes ≤ e .process .0 → (r : Record)
-      → event σ e ≡ leavesIn σ (act (σ .memory) (e .process) r (e .action) .outcome)
-  event-of-nobody long beyond r =
-      event-in-row long
-      ∙ ap (stored σ (e .process)) (refused-anywhere (σ .memory) (e .process) (recordIn σ (e .process)) (e .action) never)
-      ∙ by-test (tablesFit (σ .memory)) (λ fit. rw fit (refused-stored σ (e .process) 1)) (λ unfit. rw unfit (refused-stored σ (e .process) 7))
-      ∙ ap (λ (d : Left). leavesIn σ (d .outcome)) (sym (refused-anywhere (σ .memory) (e .process) r (e .action) never))
-    where
-      never : tablesFit (σ .memory) ≡ true → ltb (e .process .0) (σ .memory .processes) ≡ true → ⊥
-      never fit there = false≢true (sym (le-ltb (e .process .0) (σ .memory .processes) beyond) ∙ there)
+  module _ (long : σ .memory .processes ≤ length (σ .row)) (beyond : σ .memory .processes ≤ e .process .0) (r : Record) where
+    never : tablesFit (σ .memory) ≡ true → ltb (e .process .0) (σ .memory .processes) ≡ true → ⊥
+    never fit there = false≢true (sym (le-ltb (e .process .0) (σ .memory .processes) beyond) ∙ there)
+
+    pub event-of-nobody : event σ e ≡ leavesIn σ (act (σ .memory) (e .process) r (e .action) .outcome)
+    event-of-nobody =
+        event-in-row long
+        ∙ ap (stored σ (e .process)) (refused-anywhere (σ .memory) (e .process) (recordIn σ (e .process)) (e .action) never)
+        ∙ by-test (tablesFit (σ .memory)) (λ fit. rw fit (refused-stored σ (e .process) 1)) (λ unfit. rw unfit (refused-stored σ (e .process) 7))
+        ∙ ap (λ (d : Left). leavesIn σ (d .outcome)) (sym (refused-anywhere (σ .memory) (e .process) r (e .action) never))
+
+    -- the same, with the memory that is left of the one worked on
+    pub event-left-by-nobody : let d = act (σ .memory) (e .process) r (e .action) in event σ e ≡ leavesIn (stateOf (d .memory) (σ .row)) (d .outcome)
+    event-left-by-nobody =
+        let d = act (σ .memory) (e .process) r (e .action) in
+        event-of-nobody
+        ∙ ap (λ (m : Memory). leavesIn (stateOf m (σ .row)) (d .outcome))
+        (sym (ap (λ (d : Left). d .memory) (refused-anywhere (σ .memory) (e .process) r (e .action) never)))
