@@ -13,7 +13,7 @@ use Rattle.record.specs.declared.Event.{Event}
 use Rattle.record.specs.declared.Event.the-variants.{Step}
 use Rattle.basics.proofs.Tests.{if-lt}
 use Rattle.numbers.specs.Numbers.{Read, got, stops}
-use Rattle.numbers.specs.Places.{placeIn}
+use Rattle.numbers.specs.ReadAt.{placeIn}
 use Rattle.numbers.proofs.Follows.{Follows, left-at, left-follows, Refusal}
 use Rattle.schedule.specs.declared.Header.{Header}
 use Rattle.schedule.specs.declared.Cursor.{Cursor}

@@ -1,4 +1,4 @@
--- What the reader's definitions give by what its calls answered: one law for each way out of its functions. Rests on Places.
+-- What the reader's definitions give by what its calls answered: one law for each way out of its functions. Rests on the numbers' ReadAt.
 use Prim.Native.Nat.{ℕ, _-_, _<_, _≤_}
 use mathlib.Core.Bool.{Bool, true, false, cond, _&&_}
 use mathlib.Core.List.{List, []}
@@ -16,8 +16,8 @@ use Rattle.table.specs.Events.{sizesFit}
 use Rattle.numbers.specs.declared.NumberRead.{NumberRead}
 use Rattle.numbers.specs.declared.NumberRead.the-variants as number
 use Rattle.numbers.specs.Numbers.{got, stops, _then_}
-use Rattle.numbers.specs.Places.{placeIn, numberAt}
-use Rattle.numbers.proofs.Places.{place-of-drop, got-number, refused-number}
+use Rattle.numbers.specs.ReadAt.{placeIn, numberAt}
+use Rattle.numbers.proofs.ReadAt.{place-of-drop, got-number, refused-number}
 use Rattle.schedule.specs.declared.Header.{Header}
 use Rattle.schedule.specs.declared.Cursor.{Cursor}
 use Rattle.schedule.specs.declared.HeaderRead.{HeaderRead}

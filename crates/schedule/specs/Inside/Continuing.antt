@@ -8,7 +8,7 @@ use Rattle.record.specs.Record.{address}
 use Rattle.record.specs.declared.Process.{Process}
 use Rattle.table.specs.Events.{sizesFit}
 use Rattle.numbers.specs.Numbers.{Read, got, stops, _then_, readNumber}
-use Rattle.numbers.specs.Places.{placeIn}
+use Rattle.numbers.specs.ReadAt.{placeIn}
 use Rattle.schedule.specs.declared.HeaderRead.{HeaderRead}
 use Rattle.schedule.specs.declared.EventRead.{EventRead}
 use Rattle.schedule.specs.Encoding.{Item, single, burst}
