@@ -1,4 +1,4 @@
--- The law of each way out is in WaysOut.
+-- An event, by what its kind and its process gave. The law of each way out is in WaysOut.
 use borrow.Author.Needs.{needs}
 use Rattle.numbers.proofs.ReadAt.{number-inside}
 use Rattle.schedule.proofs.WaysOut.{kind-refused, kind-above, process-refused, process-read}
