@@ -1,5 +1,6 @@
-"""Shared by generate.py, check, corpora and ../compare: numbers as bytes, table cases as bytes and
-lines, the build of the reference, and the reader of the hand-worked cases."""
+"""Shared by generate.py, check, corpora, ../compare, ../bench and ../samples/make: kinds of events,
+numbers as bytes, table cases as bytes and lines, the build of the reference, and the reader of the
+hand-worked cases."""
 
 import os
 import subprocess
@@ -8,6 +9,7 @@ import sys
 HERE = os.path.dirname(os.path.abspath(__file__))
 FIELDS = ("place", "pred", "curr", "succ", "pending", "recovering",
           "status", "kind", "address", "node", "result")
+INSERT, DELETE, FIND, STEP, STOP, RESTART, BURST = range(7)
 
 
 def number(n):
@@ -23,6 +25,11 @@ def number(n):
 
 
 SMALL = [bytes([n]) for n in range(128)]
+
+
+def numbers(values):
+    """Numbers one after another: the bytes of a header, an event, a case."""
+    return b"".join(map(number, values))
 
 
 class Case:
@@ -42,7 +49,7 @@ class Case:
         values.append(len(self.row))
         for record in self.row:
             values += record
-        return b"".join(map(number, values + self.event))
+        return numbers(values + self.event)
 
     def line(self, outcome):
         values = [self.count] + self.addresses + self.links + self.deleters
@@ -70,7 +77,7 @@ def reference(program, option, stdin):
 # ---- The hand-worked cases ----
 
 class HandCase:
-    """One case of reference/cases: its input and the output it must give."""
+    """One case of reference/by-hand: its input and the output it must give."""
 
     def __init__(self, name):
         self.name = name
@@ -145,9 +152,9 @@ def change_case(case, change):
 
 
 def hand_cases(name):
-    """The cases of reference/cases/NAME.txt, in order."""
+    """The cases of reference/by-hand/NAME.txt, in order."""
     cases = []
-    with open(os.path.join(HERE, "cases", name + ".txt")) as text:
+    with open(os.path.join(HERE, "by-hand", name + ".txt")) as text:
         for line in text:
             word, _, rest = line.split("#")[0].strip().partition(" ")
             if word == "case":

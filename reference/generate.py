@@ -1,16 +1,16 @@
 #!/usr/bin/env python3
 """Makes schedules and table cases from a seed:
-generate.py schedules|tables SEED COUNT DIR writes COUNT files DIR/NUMBER-MODE, the mode by the number."""
+generate.py schedules|cases SEED COUNT DIR writes COUNT files DIR/NUMBER-MODE, the mode by the number."""
 
 import os
 import random
 import sys
 
 sys.dont_write_bytecode = True
-from common import Case, FIELDS, number
+from common import Case, FIELDS, number, numbers
+from common import INSERT, DELETE, FIND, STEP, STOP, RESTART, BURST
 
 LARGEST = 4294967295
-INSERT, DELETE, FIND, STEP, STOP, RESTART, BURST = range(7)
 IDLE, RUNNING, DOWN = range(3)
 (PLACE, PRED, CURR, SUCC, PENDING, RECOVERING,
  STATUS, KIND, ADDRESS, NODE, RESULT) = range(len(FIELDS))
@@ -214,11 +214,7 @@ class Walk:
     def bytes(self, length):
         """The schedule of a walk of that many events."""
         header = number(self.model.nodes) + number(self.model.processes)
-        return header + b"".join(event_bytes(self.take()) for _ in range(length))
-
-
-def event_bytes(event):
-    return b"".join(map(number, event))
+        return header + b"".join(numbers(self.take()) for _ in range(length))
 
 
 # ---- Schedules ----
@@ -278,22 +274,22 @@ def whole(dice):
     parts = [number(4096) + number(processes)]
     for i in range(4094):
         p = dice.below(processes)
-        parts.append(event_bytes((INSERT, p, first - i)) + event_bytes((BURST, p, 6)))
+        parts.append(numbers((INSERT, p, first - i)) + numbers((BURST, p, 6)))
     for _ in range(20):
         p, address = dice.below(processes), first - dice.below(4100)
-        parts.append(event_bytes((dice.below(3), p, max(address, 0))) + event_bytes((BURST, p, 255)))
+        parts.append(numbers((dice.below(3), p, max(address, 0))) + numbers((BURST, p, 255)))
     return b"".join(parts)
 
 
 def exact(dice):
     """Exactly 65,536 bytes, or one more."""
-    start, one = colliding(dice), event_bytes((STEP, 1))
-    block = b"".join(map(event_bytes, ((FIND, 0, LARGEST), (BURST, 0, 2), (DELETE, 1, LARGEST - 1),
+    start, one = colliding(dice), numbers((STEP, 1))
+    block = b"".join(map(numbers, ((FIND, 0, LARGEST), (BURST, 0, 2), (DELETE, 1, LARGEST - 1),
                                        (BURST, 1, 3), (STEP, 1))))
     times, rest = divmod(65536 - len(start), len(block))
     filled = start + block * times + one * (rest // 2)
     if rest % 2:  # a byte is missing: a burst of three bytes for the last step of two
-        filled = filled[:-2] + event_bytes((BURST, 1, 1))
+        filled = filled[:-2] + numbers((BURST, 1, 1))
     return filled + (dice.pick((b"\x03", b"\x00", b"\xff")) if dice.chance(0.5) else b"")
 
 
@@ -305,7 +301,7 @@ def broken_numbers(dice):
 def damaged(dice):
     """A good start, then an event out of its range or not in its form, then more."""
     walk = Walk(dice, dice.between(4, 40), dice.between(1, 4), some_addresses(dice, 3))
-    start, rest = walk.bytes(dice.below(60)), b"".join(event_bytes(walk.take()) for _ in range(4))
+    start, rest = walk.bytes(dice.below(60)), b"".join(numbers(walk.take()) for _ in range(4))
     kind, p = number(dice.below(7)), number(dice.below(6))
     way = dice.below(8)
     if way == 0:
@@ -338,7 +334,7 @@ def headers(dice):
     if way == 2:
         return number(nodes) + broken_numbers(dice)
     walk = Walk(dice, 12, 3, some_addresses(dice, 3))
-    rest = b"".join(event_bytes(walk.take()) for _ in range(40))
+    rest = b"".join(numbers(walk.take()) for _ in range(40))
     return number(nodes) + number(processes) + rest
 
 
@@ -611,29 +607,29 @@ def nonsense(dice, cases):
     return [bytes(encoded)]
 
 
-TABLES = (reached, changed, placed, broken, sizes, refused, changed, unbounded, placed, broken,
-          bad, reached, changed, large, broken, cut, nonsense, bad, changed, long)
+TABLE_CASES = (reached, changed, placed, broken, sizes, refused, changed, unbounded, placed, broken,
+               bad, reached, changed, large, broken, cut, nonsense, bad, changed, long)
 
 
-def tables_of(mode, seed, index, cases=40):
-    """The cases of one input, each as bytes."""
+def table_cases_of(mode, seed, index, cases=40):
+    """The cases of one input, each as bytes. The dice are cast as when the gate's corpora were made."""
     made = mode(Dice("tables %s %s %d" % (mode.__name__, seed, index)), cases)
     return [case if isinstance(case, bytes) else case.bytes() for case in made]
 
 
-def tables(seed, index):
+def table_cases(seed, index):
     """The mode's name and the bytes of one input of table cases."""
-    mode = TABLES[index % len(TABLES)]
-    return mode.__name__, b"".join(tables_of(mode, seed, index))
+    mode = TABLE_CASES[index % len(TABLE_CASES)]
+    return mode.__name__, b"".join(table_cases_of(mode, seed, index))
 
 
 def main(arguments):
-    if len(arguments) != 4 or arguments[0] not in ("schedules", "tables"):
-        sys.exit("usage: generate.py schedules|tables SEED COUNT DIR")
+    if len(arguments) != 4 or arguments[0] not in ("schedules", "cases"):
+        sys.exit("usage: generate.py schedules|cases SEED COUNT DIR")
     what, seed, count, folder = arguments
     os.makedirs(folder, exist_ok=True)
     for index in range(int(count)):
-        mode, data = (schedule if what == "schedules" else tables)(seed, index)
+        mode, data = (schedule if what == "schedules" else table_cases)(seed, index)
         with open(os.path.join(folder, "%05d-%s" % (index, mode)), "wb") as out:
             out.write(data)
 

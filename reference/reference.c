@@ -1,5 +1,5 @@
 /* The reference: the list of document 01 in plain C, written from that document alone.
-   `reference run` runs a schedule; `reference tables` works single events on lent tables. */
+   `reference run` runs a schedule; `reference cases` works single events on lent tables. */
 
 #include <stdbool.h>
 #include <stdint.h>
@@ -572,7 +572,7 @@ static void put_case(const struct tables *t, int outcome)
     put_text("\n");
 }
 
-static void tables(void)
+static void cases(void)
 {
     static unsigned char bytes[MAX_CASES];
     static uint32_t address[MAX_LENT], link[MAX_LENT], deleter[MAX_LENT];
@@ -593,10 +593,10 @@ int main(int argc, char **argv)
 {
     if (argc == 2 && strcmp(argv[1], "run") == 0) {
         run();
-    } else if (argc == 2 && strcmp(argv[1], "tables") == 0) {
-        tables();
+    } else if (argc == 2 && strcmp(argv[1], "cases") == 0) {
+        cases();
     } else {
-        fputs("usage: reference run | tables\n", stderr);
+        fputs("usage: reference run | cases\n", stderr);
         return 2;
     }
     flush();

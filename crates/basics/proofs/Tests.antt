@@ -1,7 +1,7 @@
 -- Tests on numbers as facts, to go by cases over a `cond` in a goal; booleans and options by cases. Assumes nothing.
 use mathlib.Core.Path.{_≡_, refl}
 use mathlib.Core.Logic.{_≢_, _⊎_, inl, inr}
-use mathlib.Core.Bool.{Bool, true, false, cond, not, _&&_, false≢true}
+use mathlib.Core.Bool.{Bool, true, false, cond, not, _&&_, _||_, false≢true}
 use mathlib.Core.Option.{Option, none, some}
 use mathlib.Core.List.{List, [], _∷_}
 use Prim.Native.Nat.{ℕ, zero, suc, _≤_, _<_}
@@ -26,6 +26,22 @@ module _ {ℓ κ} {A : Type ℓ} (P : A → Type κ) where
 
   pub if-le : (a b : ℕ) {x y : A} → (a ≤ b → P x) → (b < a → P y) → P (cond (leb a b) x y)
   if-le a b f g = if (leb a b) (λ e. f (leb-true a b e)) (λ e. g (leb-false a b e))
+
+  -- two tests joined
+  pub if-or : (a b : Bool) {x y : A} → (a ≡ true → P x) → (b ≡ true → P x) → (a ≡ false → b ≡ false → P y) → P (cond (a || b) x y)
+  if-or true b f g h = f refl
+  if-or false true f g h = g refl
+  if-or false false f g h = h refl refl
+
+  if-and : (a b : Bool) {x y : A} → (a ≡ true → b ≡ true → P x) → (a ≡ false → P y) → (b ≡ false → P y) → P (cond (a && b) x y)
+  if-and true true f g h = f refl refl
+  if-and true false f g h = h refl
+  if-and false b f g h = g refl
+
+  pub if-within : (m n k : ℕ) {x y : A} → (m ≤ n → n ≤ k → P x) → ((n < m) ⊎ (k < n) → P y) → P (cond (leb m n && leb n k) x y)
+  if-within m n k f g =
+      if-and (leb m n) (leb n k)
+      (λ s t. f (leb-true m n s) (leb-true n k t)) (λ s. g (inl (leb-false m n s))) (λ t. g (inr (leb-false n k t)))
 
 -- any goal, by a test's two cases
 pub by-test {κ} : {X : Type κ} (b : Bool) → (b ≡ true → X) → (b ≡ false → X) → X

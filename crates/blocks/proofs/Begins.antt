@@ -20,7 +20,7 @@ use Rattle.fresh.specs.Fresh.{tablesLeft, freshFits, freshTables}
 use Rattle.fresh.specs.declared.Made.{Made}
 use Rattle.fresh.specs.declared.Made.the-variants.{Fresh, Refused}
 use Rattle.numbers.specs.Numbers.{Read, got, stops, readNumber}
-use Rattle.numbers.specs.Places.{placeIn}
+use Rattle.numbers.specs.ReadAt.{placeIn}
 use Rattle.numbers.proofs.Follows.{Tells, after, number-takes}
 use Rattle.schedule.specs.declared.Header.{Header}
 use Rattle.schedule.specs.declared.Cursor.{Cursor}

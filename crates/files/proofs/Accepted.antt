@@ -11,9 +11,8 @@ use Rattle.schedule.specs.declared.Header.{Header}
 use Rattle.schedule.specs.declared.Cursor.{Cursor}
 use Rattle.schedule.specs.declared.HeaderRead.the-variants.{Got}
 use Rattle.schedule.specs.Encoding.{Item, eventsOf, itemBytes, itemsBytes, headerBytes, fileBytes}
-use Rattle.schedule.specs.Reading.{Reading, reading, readHeader, item, refuses, nextItem, badHeader, file, readFile}
+use Rattle.schedule.specs.Reading.{Reading, reading, readHeader, item, refuses, nextItem, badHeader, file, readFile, readAll}
 use Rattle.schedule.specs.Cursors.{headerAt}
-use Rattle.schedule.specs.Reading.{readAll}
 use Rattle.files.specs.Comes.{handed, handedOut}
 use Rattle.files.specs.Fits.{Each, Bytes, HeaderFits, ItemFits}
 use Rattle.files.specs.Refusals.{Refused, HeaderRefused}

@@ -9,11 +9,12 @@ use lib.Dec.{ltb}
 use lib.ListN.{length, drop, replicate}
 use Rattle.record.specs.Record.{process}
 use Rattle.record.specs.declared.Process.{Process}
+use Rattle.record.specs.Event.{eventOf}
+use Rattle.record.specs.declared.Action.the-variants.{Step}
 use Rattle.record.specs.declared.Event.{Event}
-use Rattle.record.specs.declared.Event.the-variants.{Step}
 use Rattle.basics.proofs.Tests.{if-lt}
 use Rattle.numbers.specs.Numbers.{Read, got, stops}
-use Rattle.numbers.specs.Places.{placeIn}
+use Rattle.numbers.specs.ReadAt.{placeIn}
 use Rattle.numbers.proofs.Follows.{Follows, left-at, left-follows, Refusal}
 use Rattle.schedule.specs.declared.Header.{Header}
 use Rattle.schedule.specs.declared.Cursor.{Cursor}
@@ -22,9 +23,8 @@ use Rattle.schedule.specs.declared.HeaderRead.the-variants as header
 use Rattle.schedule.specs.declared.EventRead.{EventRead}
 use Rattle.schedule.specs.declared.EventRead.the-variants as event
 use Rattle.schedule.specs.Encoding.{Item, single, burst, eventsOf}
-use Rattle.schedule.specs.Reading.{Reading, readHeader, NextItem, end, item, refuses, nextItem, File, file, badHeader, readFile}
+use Rattle.schedule.specs.Reading.{Reading, readHeader, NextItem, end, item, refuses, nextItem, File, file, badHeader, readFile, readAll}
 use Rattle.schedule.specs.Cursors.{cursorIn, headerRead, headerAt, eventRead, eventAt}
-use Rattle.schedule.specs.Reading.{readAll}
 use Rattle.files.specs.Comes.{comes, ends, HandedOut, handed, firstThen, handedOut}
 use Rattle.files.proofs.Follows.{CountFits, Next, next, TakesHeader, header-takes}
 use Rattle.files.proofs.ReadAll.{read-end, read-item, read-refused}
@@ -45,10 +45,10 @@ steps-left (suc n) e l =
 
 -- in a burst
 burst-answers : (s : List ℕ) (c : Cursor) → 0 < c .left
-    → Answer s c (event.Got (Step (c .process)) (cursorIn (c .at) (c .process) (c .left - 1)))
+    → Answer s c (event.Got (eventOf (c .process) Step) (cursorIn (c .at) (c .process) (c .left - 1)))
 unfolding comes ends
 burst-answers s c l =
-    (ap (λ (r : List Event). r ++ eventsOf (readAll (drop (c .at) s) .items)) (steps-left (c .left) (Step (c .process)) l), refl)
+    (ap (λ (r : List Event). r ++ eventsOf (readAll (drop (c .at) s) .items)) (steps-left (c .left) (eventOf (c .process) Step) l), refl)
 
 -- between items
 comes-items : (s : List ℕ) (c : Cursor) (x : Reading) → c .left ≤ 0 → readAll (drop (c .at) s) ≡ x
@@ -56,15 +56,15 @@ comes-items : (s : List ℕ) (c : Cursor) (x : Reading) → c .left ≤ 0 → re
 unfolding comes ends
 comes-items s c x l e =
     let between : c .left ≡ 0 = omega arith in
-    ((λ j. replicate (between j) (Step (c .process)) ++ eventsOf (e j .items)), ap (λ (r : Reading). r .ended) e)
+    ((λ j. replicate (between j) (eventOf (c .process) Step) ++ eventsOf (e j .items)), ap (λ (r : Reading). r .ended) e)
 
 -- at a cursor made of the bytes left
 comes-left : (s left : List ℕ) (p : Process) (more : ℕ) → drop (placeIn s left) s ≡ left
-    → (comes s (cursorIn (placeIn s left) p more) ≡ replicate more (Step p) ++ eventsOf (readAll left .items))
+    → (comes s (cursorIn (placeIn s left) p more) ≡ replicate more (eventOf p Step) ++ eventsOf (readAll left .items))
     × (ends s (cursorIn (placeIn s left) p more) ≡ readAll left .ended)
 unfolding comes ends
 comes-left s left p more e =
-    (ap (λ (r : List ℕ). replicate more (Step p) ++ eventsOf (readAll r .items)) e, ap (λ (r : List ℕ). readAll r .ended) e)
+    (ap (λ (r : List ℕ). replicate more (eventOf p Step) ++ eventsOf (readAll r .items)) e, ap (λ (r : List ℕ). readAll r .ended) e)
 
 item-answers : (s : List ℕ) (c : Cursor) (i : Item) (left : List ℕ) → c .left ≤ 0
     → nextItem (drop (c .at) s) ≡ item i left → Follows left (drop (c .at) s) → CountFits i → Answer s c (eventRead (placeIn s) (item i left))
@@ -76,8 +76,8 @@ item-answers s c (single e) left l x f fits =
 item-answers s c (burst p count) left l x f fits =
     let now = comes-items s c _ l (read-item (drop (c .at) s) (burst p count) left x) in
     let then = comes-left s left p (count - 1) (left-follows s (c .at) left f) in (
-      now .0 ∙ ap (λ (r : List Event). r ++ eventsOf (readAll left .items)) (steps-left count (Step p) (fits .0))
-          ∙ ap (λ (r : List Event). Step p ∷ r) (sym (then .0)),
+      now .0 ∙ ap (λ (r : List Event). r ++ eventsOf (readAll left .items)) (steps-left count (eventOf p Step) (fits .0))
+          ∙ ap (λ (r : List Event). eventOf p Step ∷ r) (sym (then .0)),
       now .1 ∙ sym (then .1),
     )
 

@@ -6,8 +6,7 @@ use lib.ListN.{length, drop, length-append, length-replicate, length-drop}
 use Rattle.numbers.proofs.Follows.{follows-shorter}
 use Rattle.schedule.specs.declared.Cursor.{Cursor}
 use Rattle.schedule.specs.Encoding.{Item, single, burst, eventsOf}
-use Rattle.schedule.specs.Reading.{Reading}
-use Rattle.schedule.specs.Reading.{readAll}
+use Rattle.schedule.specs.Reading.{Reading, readAll}
 use Rattle.files.specs.Comes.{comes}
 use Rattle.files.proofs.Follows.{CountFits}
 use Rattle.files.proofs.ReadAll.{item-by-item}

@@ -9,8 +9,7 @@ use Rattle.basics.proofs.Tests.{if-lt}
 use Rattle.numbers.specs.Numbers.{Read, got, stops}
 use Rattle.schedule.specs.declared.Header.{Header}
 use Rattle.schedule.specs.Encoding.{Item, itemBytes, itemsBytes, headerBytes}
-use Rattle.schedule.specs.Reading.{Reading, reading, before, readHeader, nextItem, File, badHeader, file, readFile}
-use Rattle.schedule.specs.Reading.{readAll}
+use Rattle.schedule.specs.Reading.{Reading, reading, before, readHeader, nextItem, File, badHeader, file, readFile, readAll}
 use Rattle.files.specs.Fits.{Each, Bytes, HeaderFits, ItemFits}
 use Rattle.files.specs.Refusals.{Missing, Faulty, HeaderRefused, file-too-long, header-ends, header-number, sizes-outside}
 use Rattle.files.specs.Stands.{Ends, Says}

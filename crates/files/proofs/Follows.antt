@@ -1,5 +1,5 @@
 -- Reading a header or an item takes bytes off the front, at least one, and is refused with 4 to 7 alone. Holds of any list of numbers. Rests on the
--- schedule's Follows.
+-- numbers' Follows.
 use mathlib.Core.Path.{_≡_, refl}
 use mathlib.Core.List.{List, [], _∷_}
 use Prim.Native.Nat.{ℕ, _≤_}
@@ -7,13 +7,12 @@ use native.Mathlib.Omega.{arith}
 use Rattle.record.specs.Record.{process}
 use Rattle.record.specs.declared.Process.{Process}
 use Rattle.table.specs.Events.{sizesFit}
-use Rattle.basics.proofs.Tests.{if, if-lt, if-le}
+use Rattle.basics.proofs.Tests.{if, if-lt, if-le, if-within}
 use Rattle.numbers.specs.Numbers.{Read, got, stops, readNumber}
 use Rattle.numbers.proofs.Follows.{Tells, after, Follows, follows-follows, Refusal, number-takes}
 use Rattle.schedule.specs.declared.Header.{Header}
 use Rattle.schedule.specs.Encoding.{Item, single, burst}
 use Rattle.schedule.specs.Reading.{readHeader, readItem, readRest, readBurst, NextItem, end, item, refuses, standing, nextItem}
-use Rattle.files.proofs.Cases.{if-within}
 
 -- "header numbers, 7 for sizes"
 abbrev pub TakesHeader : List ℕ → Read Header → Type 0

@@ -8,7 +8,7 @@ use native.Mathlib.Omega.{arith}
 use lib.ListN.{length}
 use Rattle.table.specs.Events.{sizesFit}
 use Rattle.basics.proofs.Tests.{if}
-use Rattle.table.proofs.Fitting.{limits-of}
+use Rattle.table.proofs.Laws.Fitting.{limits-of}
 use Rattle.numbers.specs.Numbers.{numberBytes, Read, got, stops, _then_, readNumber}
 use Rattle.numbers.proofs.Follows.{Tells, after}
 use Rattle.schedule.specs.declared.Header.{Header}

@@ -8,16 +8,18 @@ use native.Mathlib.Omega.{arith}
 use borrow.Author.Tests.{lt-ltb, le-ltb, le-leb, lt-leb}
 use lib.Dec.{leb}
 use Rattle.record.specs.Record.{process, address}
-use Rattle.record.specs.declared.Event.the-variants.{Insert, Delete, Find, Step, Stop, Restart}
-use Rattle.basics.proofs.Tests.{if-lt, if-le}
+use Rattle.record.specs.Event.{addressOf, eventOf}
+use Rattle.record.specs.declared.Process.{Process}
+use Rattle.record.specs.declared.Action.{Action}
+use Rattle.record.specs.declared.Action.the-variants.{Insert, Delete, Find, Step, Stop, Restart}
+use Rattle.basics.proofs.Tests.{if-lt, if-le, if-within}
 use Rattle.numbers.specs.Numbers.{numberBytes, Read, got, stops, _then_, readNumber}
 use Rattle.numbers.proofs.Follows.{Tells, after}
 use Rattle.schedule.specs.Encoding.{addressBytes, eventBytes, Item, single, burst, itemBytes}
-use Rattle.schedule.specs.Reading.{readItem, readRest, readBurst, request, move, NextItem, end, item, refuses, standing, nextItem}
-use Rattle.files.specs.Fits.{Bytes, Fits32, ItemFits}
+use Rattle.schedule.specs.Reading.{readItem, readRest, readBurst, requestOfKind, moveOfKind, NextItem, end, item, refuses, standing, nextItem}
+use Rattle.files.specs.Fits.{Bytes, Fits32, AddressFits, ItemFits}
 use Rattle.files.specs.Refusals.{Missing, Faulty, AtNumber, at-kind, at-process, at-last}
 use Rattle.files.specs.Refusals.{Refused, ends-inside, kind-above-6, count-outside, bad-number}
-use Rattle.files.proofs.Cases.{if-within}
 use Rattle.files.proofs.Numbers.{number-read, number-tells, after-number, missing-stops, faulty-stops}
 
 -- three parts in a row, and what stands after them
@@ -38,13 +40,13 @@ unfolding _then_
 opening-read kind p rest l u = kind-read kind (numberBytes p ++ rest) l ∙ rw (number-read p rest u)
 
 request-read : (kind p a : ℕ) (rest : List ℕ) → kind ≤ 2 → Fits32 p → Fits32 a
-    → readItem ((numberBytes kind ++ (numberBytes p ++ numberBytes a)) ++ rest) ≡ got (single (request kind (process p) (address a))) rest
+    → readItem ((numberBytes kind ++ (numberBytes p ++ numberBytes a)) ++ rest) ≡ got (single (eventOf (process p) (requestOfKind kind (address a)))) rest
 unfolding readRest _then_
 request-read kind p a rest l u v =
     rw (joined, opening-read kind p (numberBytes a ++ rest) (omega arith) u, le-leb kind 2 l, number-read a rest v)
 
 move-read : (kind p : ℕ) (rest : List ℕ) → 2 < kind → kind ≤ 5 → Fits32 p
-    → readItem ((numberBytes kind ++ (numberBytes p ++ [])) ++ rest) ≡ got (single (move kind (process p))) rest
+    → readItem ((numberBytes kind ++ (numberBytes p ++ [])) ++ rest) ≡ got (single (eventOf (process p) (moveOfKind kind))) rest
 unfolding readRest
 move-read kind p rest l m u =
     rw (joined (numberBytes kind) (numberBytes p) [] rest, opening-read kind p rest (omega arith) u, lt-leb kind 2 l, le-leb kind 5 m)
@@ -56,15 +58,21 @@ burst-read p count rest u l m =
     rw (joined, opening-read 6 p (numberBytes count ++ rest) (omega arith) u)
     (rw (number-read count rest (omega arith), le-leb 1 count l, le-leb count 255 m))
 
+-- an event written is read
+event-read : (p : Process) (x : Action) (rest : List ℕ) → Fits32 (p .0) → AddressFits (addressOf x)
+    → readItem (eventBytes (eventOf p x) ++ rest) ≡ got (single (eventOf p x)) rest
+unfolding eventBytes addressBytes
+event-read p (Insert a) rest u v = request-read 0 (p .0) (a .0) rest (omega arith) u v
+event-read p (Delete a) rest u v = request-read 1 (p .0) (a .0) rest (omega arith) u v
+event-read p (Find a) rest u v = request-read 2 (p .0) (a .0) rest (omega arith) u v
+event-read p Step rest u v = move-read 3 (p .0) rest (omega arith) (omega arith) u
+event-read p Stop rest u v = move-read 4 (p .0) rest (omega arith) (omega arith) u
+event-read p Restart rest u v = move-read 5 (p .0) rest (omega arith) (omega arith) u
+
 -- an item written is read, with what stands after it left
 pub item-read : (i : Item) (rest : List ℕ) → ItemFits i → readItem (itemBytes i ++ rest) ≡ got i rest
-unfolding itemBytes eventBytes addressBytes
-item-read (single (Insert p a)) rest fits = request-read 0 (p .0) (a .0) rest (omega arith) (fits .0) (fits .1)
-item-read (single (Delete p a)) rest fits = request-read 1 (p .0) (a .0) rest (omega arith) (fits .0) (fits .1)
-item-read (single (Find p a)) rest fits = request-read 2 (p .0) (a .0) rest (omega arith) (fits .0) (fits .1)
-item-read (single (Step p)) rest fits = move-read 3 (p .0) rest (omega arith) (omega arith) (fits .0)
-item-read (single (Stop p)) rest fits = move-read 4 (p .0) rest (omega arith) (omega arith) (fits .0)
-item-read (single (Restart p)) rest fits = move-read 5 (p .0) rest (omega arith) (omega arith) (fits .0)
+unfolding itemBytes
+item-read (single e) rest fits = event-read (e .process) (e .action) rest (fits .0) (fits .1)
 item-read (burst p count) rest fits = burst-read (p .0) count rest (fits .0) (omega (arith, fits .1)) (omega (arith, fits .2))
 
 -- ---- what is read was written, and what stands where none can be read
@@ -74,7 +82,7 @@ abbrev IsItem : Item → List ℕ → Type 0
 IsItem i numbers = (itemBytes i ≡ numbers) × ItemFits i
 
 request-is : (kind p a : ℕ) → kind ≤ 2 → Fits32 p → Fits32 a
-    → IsItem (single (request kind (process p) (address a))) (numberBytes kind ++ (numberBytes p ++ numberBytes a))
+    → IsItem (single (eventOf (process p) (requestOfKind kind (address a)))) (numberBytes kind ++ (numberBytes p ++ numberBytes a))
 unfolding itemBytes eventBytes addressBytes
 request-is zero p a l u v = (refl, (u, v))
 request-is (suc zero) p a l u v = (refl, (u, v))
@@ -82,7 +90,7 @@ request-is (suc (suc zero)) p a l u v = (refl, (u, v))
 request-is (suc (suc (suc kind))) p a l u v = absurd (omega arith)
 
 move-is : (kind p : ℕ) → 2 < kind → kind ≤ 5 → Fits32 p
-    → IsItem (single (move kind (process p))) (numberBytes kind ++ (numberBytes p ++ []))
+    → IsItem (single (eventOf (process p) (moveOfKind kind))) (numberBytes kind ++ (numberBytes p ++ []))
 unfolding itemBytes eventBytes addressBytes
 move-is zero p l m u = absurd (omega arith)
 move-is (suc zero) p l m u = absurd (omega arith)

@@ -1,5 +1,4 @@
 -- The theorems to read first: Numbers (its end), Accepted, AfterRefusal, Written, Demand3 and, for a program that reads by a cursor, Comes.
-pub mod Cases
 pub mod Follows
 pub mod ReadAll
 pub mod Comes
@@ -12,4 +11,3 @@ pub mod Accepted
 pub mod Looked
 pub mod AfterRefusal
 pub mod Written
-pub mod Demand3

@@ -1,4 +1,4 @@
--- Numbers as bytes: what is written is read, what is read was written, and what stands where none can be read. Rests on Cases.
+-- Numbers as bytes: what is written is read, what is read was written, and what stands where none can be read. Rests on the crate numbers.
 use mathlib.Core.Path.{_≡_, refl, sym, ap, _∙_, subst}
 use mathlib.Core.Logic.{_⊎_, inl, inr, _↔_}
 use mathlib.Core.Bool.{cond}
@@ -8,12 +8,11 @@ use native.Mathlib.Omega.{arith}
 use borrow.Author.Tests.{lt-ltb, le-ltb, ne-eqb, ltb-true, ltb-false, eqb-true, eqb-false}
 use lib.Dec.{ltb, eqb}
 use lib.ListN.{length}
-use Rattle.basics.proofs.Tests.{if-lt, if-eq}
+use Rattle.basics.proofs.Tests.{if-lt, if-eq, if-or}
 use Rattle.numbers.specs.Numbers.{groups, numberBytes, Read, got, stops, _then_, lowest, moreGroups, readNumber}
 use Rattle.numbers.proofs.Follows.{Tells, after}
 use Rattle.files.specs.Fits.{Bytes, Fits32}
 use Rattle.files.specs.Refusals.{Promise, Missing, Faulty}
-use Rattle.files.proofs.Cases.{if-or}
 
 -- the numbers that so many groups and one can hold, the last of them at most 15
 abbrev bound : ℕ → ℕ

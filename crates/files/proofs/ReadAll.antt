@@ -6,8 +6,7 @@ use native.Mathlib.Omega.{arith}
 use lib.ListN.{length}
 use Rattle.numbers.proofs.Follows.{Follows, follows-shorter}
 use Rattle.schedule.specs.Encoding.{Item}
-use Rattle.schedule.specs.Reading.{Reading, reading, before, readItems, NextItem, end, item, refuses, nextItem}
-use Rattle.schedule.specs.Reading.{readAll}
+use Rattle.schedule.specs.Reading.{Reading, reading, before, readItems, NextItem, end, item, refuses, nextItem, readAll}
 use Rattle.files.proofs.Follows.{CountFits, Next, next}
 
 -- by what stands next, where what is left after an item is read by `again`

@@ -2,9 +2,10 @@
 use mathlib.Core.List.{List, [], _∷_, _++_}
 use mathlib.Core.Option.{Option, none, some}
 use Prim.Native.Nat.{ℕ, zero, suc}
-use lib.ListN.{length, drop, replicate}
+use lib.ListN.{drop, replicate}
+use Rattle.record.specs.Event.{eventOf}
+use Rattle.record.specs.declared.Action.the-variants.{Step}
 use Rattle.record.specs.declared.Event.{Event}
-use Rattle.record.specs.declared.Event.the-variants.{Step}
 use Rattle.schedule.specs.declared.Cursor.{Cursor}
 use Rattle.schedule.specs.declared.EventRead.the-variants as event
 use Rattle.schedule.specs.Encoding.{eventsOf}
@@ -13,7 +14,7 @@ use Rattle.schedule.specs.Cursors.{eventAt}
 
 -- the events to come: the steps left of a burst, then the events of the items after the cursor
 unfoldable pub comes : (file : List ℕ) → Cursor → List Event
-comes file c = replicate (c .left) (Step (c .process)) ++ eventsOf (readAll (drop (c .at) file) .items)
+comes file c = replicate (c .left) (eventOf (c .process) Step) ++ eventsOf (readAll (drop (c .at) file) .items)
 
 -- how it will end: 0 at the end of the file, else the refusal's number
 unfoldable pub ends : (file : List ℕ) → Cursor → ℕ

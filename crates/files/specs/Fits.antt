@@ -4,7 +4,7 @@ use mathlib.Core.Bool.{true}
 use mathlib.Core.List.{List, [], _∷_}
 use mathlib.Core.Option.{Option, none, some}
 use Prim.Native.Nat.{ℕ, _≤_, _<_}
-use Rattle.record.specs.Event.{processOf, addressOf}
+use Rattle.record.specs.Event.{addressOf}
 use Rattle.record.specs.declared.Address.{Address}
 use Rattle.record.specs.declared.Event.{Event}
 use Rattle.table.specs.Events.{sizesFit}
@@ -33,7 +33,7 @@ AddressFits none = Unit
 AddressFits (some a) = Fits32 (a .0)
 
 abbrev pub EventFits : Event → Type 0
-EventFits e = Fits32 (processOf e .0) × AddressFits (addressOf e)
+EventFits e = Fits32 (e .process .0) × AddressFits (addressOf (e .action))
 
 -- "burst: process and count 1 to 255"
 abbrev pub ItemFits : Item → Type 0

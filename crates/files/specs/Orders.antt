@@ -6,8 +6,9 @@ use Prim.Native.Nat.{ℕ, _<_}
 use lib.ListN.{length, getD}
 use Rattle.record.specs.Record.{process}
 use Rattle.record.specs.declared.Node.{Node}
+use Rattle.record.specs.Event.{eventOf}
+use Rattle.record.specs.declared.Action.the-variants.{Step}
 use Rattle.record.specs.declared.Event.{Event}
-use Rattle.record.specs.declared.Event.the-variants.{Step}
 use Rattle.record.specs.declared.Outcome.the-variants.{Accepted}
 use Rattle.table.specs.Events.{State, fresh, runs, outcomes}
 use Rattle.table.specs.History.{Order}
@@ -18,7 +19,7 @@ use Rattle.schedule.specs.Reading.{Reading}
 
 -- a list of events as a sequence; past its end stands a step, which no history of the list's length looks at
 abbrev pub numbered : List Event → ℕ → Event
-numbered events t = getD events t (Step (process 0))
+numbered events t = getD events t (eventOf (process 0) Step)
 
 -- the run of a list of events from a state in which nothing is held
 pub record Ordered (σ : State) (events : List Event) : Type 0 where

@@ -1,4 +1,4 @@
--- What stands where a header or an event is refused with 4 to 7, said of the bytes and without a reader. Rests on the schedule's numbers.
+-- What stands where a header or an event is refused with 4 to 7, said of the bytes and without a reader. Rests on the numbers' bytes and on Fits.
 use mathlib.Core.Path.{_≡_}
 use mathlib.Core.Logic.{_≢_, _⊎_}
 use mathlib.Core.List.{List, [], _∷_, _++_}

@@ -9,7 +9,7 @@ use lib.ListN.{length, take, drop, length-append, take-append-drop}
 use lib.Seq.{drop-at}
 use Rattle.basics.proofs.Tests.{if, if-lt}
 use Rattle.numbers.specs.Numbers.{Read, got, stops, _then_, lowest, moreGroups, readNumber}
-use Rattle.numbers.specs.Places.{placeIn}
+use Rattle.numbers.specs.ReadAt.{placeIn}
 
 -- ---- what reading tells: one thing of what was read and the bytes left, another of a refusal
 

@@ -7,13 +7,15 @@ use native.Mathlib.Omega.{arith}
 use native.Mathlib.Numerals.{add-one}
 use borrow.Author.Tests.{lt-ltb, le-ltb, le-leb, lt-leb, ltb-true, ltb-false}
 use lib.Dec.{leb, ltb, eqb}
+use mir.Syntax.{w8}
+use mir.Val.{Fits}
 use lib.ListN.{length, take, drop, getD, set, length-set, length-drop, drop-of-length-le}
 use lib.Seq.{drop-cons, take-suc-set, set-split, getD-set-same, getD-set-other, getD-drop}
 use Rattle.numbers.specs.declared.NumberRead.{NumberRead}
 use Rattle.numbers.specs.declared.NumberRead.the-variants.{Got, Refused}
 use Rattle.numbers.specs.Numbers.{Read, got, stops, _then_, lowest, moreGroups, readNumber}
 use Rattle.numbers.specs.Gathering.{Groups, summed, summedWith, judged}
-use Rattle.numbers.specs.Places.{placeIn, numberRead, numberAt}
+use Rattle.numbers.specs.ReadAt.{placeIn, numberRead, numberAt}
 
 -- ---- what is left to read
 
@@ -176,7 +178,7 @@ module _ (bytes groups : List ℕ) (count next : ℕ) where
     next-byte = rw (drop-cons bytes next 0 there, add-one next)
 
     -- a group that is not the last
-    pub gathered : 128 ≤ byte
+    gathered : 128 ≤ byte
         → left ≡ behind (take (count + 1) (set groups count (byte - 128))) (afterGroups (count + 1) (drop (next + 1) bytes))
     gathered more =
         ap (behind (take count groups)) (next-byte ∙ (one-more count byte (drop (next + 1) bytes) few ∙ rw (le-ltb byte 128 more)))
@@ -248,7 +250,7 @@ none-gathered whole =
       whole = whole;
     }
 
-pub one-gathered : {Whole More : Type 0} (count : ℕ) (groups : List ℕ) (b : ℕ) → count < 5 → b < 128
+one-gathered : {Whole More : Type 0} (count : ℕ) (groups : List ℕ) (b : ℕ) → count < 5 → b < 128
     → Gathered count groups Whole → More
     → Gathered (count + 1) (set groups count b) More
 one-gathered count groups b h small g whole =
@@ -259,3 +261,12 @@ one-gathered count groups b h small g whole =
       zeros = λ k far. getD-set-other groups count k b 0 (λ e. omega arith) ∙ g .zeros k (omega arith);
       whole = whole;
     }
+
+-- a turn that goes on: a byte of 128 or more, and its group put
+pub group-more : (bytes groups : List ℕ) (count next : ℕ) (number : Read ℕ) → Gathered count groups (left bytes groups count next ≡ number)
+    → count < 5 → next < length bytes → 128 ≤ getD bytes next 0 → Fits w8 (getD bytes next 0)
+    → Gathered (count + 1) (set groups count (getD bytes next 0 - 128))
+    (left bytes (set groups count (getD bytes next 0 - 128)) (count + 1) (next + 1) ≡ number)
+group-more bytes groups count next number g few there more fits =
+    one-gathered count groups (getD bytes next 0 - 128) few (omega (arith, fits .fits)) g
+    (sym (gathered bytes groups count next few (g .five) there more) ∙ g .whole)

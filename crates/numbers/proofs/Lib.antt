@@ -1,6 +1,6 @@
 -- The laws of a number's bytes and of reading them, Follows to Gathers; and that the promise leaves one outcome, Unique.
 pub mod Sizes
 pub mod Follows
-pub mod Places
+pub mod ReadAt
 pub mod Gathers
 pub mod Unique

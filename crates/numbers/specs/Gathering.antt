@@ -1,4 +1,4 @@
--- What the number reader makes of the groups that it gathered; no public promise rests on it. Rests on Places.
+-- What the number reader makes of the groups that it gathered; no public promise rests on it. Rests on ReadAt.
 use mathlib.Core.Bool.{cond, _&&_}
 use mathlib.Core.List.{List, [], _∷_}
 use Prim.Native.Nat.{ℕ, _+_, _*_, _<_}
@@ -6,7 +6,7 @@ use lib.Dec.{ltb, eqb}
 use lib.ListN.{getD}
 use Rattle.numbers.specs.declared.NumberRead.{NumberRead}
 use Rattle.numbers.specs.Numbers.{got, stops}
-use Rattle.numbers.specs.Places.{numberRead}
+use Rattle.numbers.specs.ReadAt.{numberRead}
 
 -- "groups of seven bits"
 abbrev pub Groups : List ℕ → Type 0

@@ -1,3 +1,3 @@
 pub mod Numbers
-pub mod Places
+pub mod ReadAt
 pub mod Gathering

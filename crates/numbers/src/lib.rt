@@ -2,7 +2,7 @@
 // definitions of the bytes are in specs/.
 ghost use mathlib.Core.Path.{_≡_};
 ghost use Prim.Native.Nat.{_+_, _*_, _<_};
-ghost use Rattle.numbers.specs.Places.{numberAt};
+ghost use Rattle.numbers.specs.ReadAt.{numberAt};
 ghost use Rattle.numbers.specs.Gathering.{Groups, summedWith, judged};
 
 // A number with the place after it, or the refusal's number.

@@ -1,4 +1,4 @@
--- Bytes laid at the start of what was lent, piece by piece, and what the lender then has. Rests on Parts.
+-- Bytes laid at the start of what was lent, piece by piece, and what the lender then has. Rests on BytesNeeded.
 use Prim.Native.Nat.{ℕ, zero, suc, _+_, _-_, _<_, _≤_, min}
 use mathlib.Core.Bool.{Bool, true, false, cond}
 use mathlib.Core.List.{List, [], _∷_, _++_, append-nil}
@@ -21,7 +21,7 @@ use Rattle.schedule.specs.declared.writing.Numbers.{Numbers}
 use Rattle.schedule.specs.Encoding.{headerBytes, eventBytes}
 use Rattle.schedule.specs.Writing.{Wrote, room, laid, wrote, answered, put, writtenHeader, writtenEvent}
 use Rattle.schedule.specs.Inside.Laying.{two, tailBytes, bytesOf, fitted, allOrNone, putInRest}
-use Rattle.schedule.proofs.Parts.{tail-of-two, tail-of-three}
+use Rattle.schedule.proofs.BytesNeeded.{tail-of-two, tail-of-three}
 
 -- ---- bytes laid as far as there is room
 
@@ -69,11 +69,6 @@ module _ (x : Numbers) (out mid : List ℕ) (e : mid ≡ fitted (numberBytes (x 
       rw (tail-of-three x is) (fitted-then (numberBytes (x .second)) (numberBytes (x .third)) out mid new at e n f)
 
 -- ---- all the bytes in the rest of the output, or none
-
-pub within-room : (needed left count : ℕ) → count ≡ allOrNone needed left → count ≤ left
-unfolding allOrNone
-within-room needed left count =
-    if-le (λ (k : ℕ). count ≡ k → count ≤ left) needed left (λ fits all. omega arith) (λ lacks none. omega arith)
 
 -- what the event writer has counted, and the numbers put in as many bytes
 module _ (bytes rest new : List ℕ) (at needed left count : ℕ)

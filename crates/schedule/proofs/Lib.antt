@@ -1,6 +1,6 @@
--- The laws of the reader, WaysOut, and of the writer, Parts to Puts; and that the promises of both leave one outcome, Unique.
+-- The laws of the reader, WaysOut, and of the writer, BytesNeeded to PutNumber; and that the promises of both leave one outcome, Unique.
 pub mod WaysOut
-pub mod Parts
+pub mod BytesNeeded
 pub mod Lays
-pub mod Puts
+pub mod PutNumber
 pub mod Unique

@@ -9,6 +9,7 @@ use Rattle.record.specs.Event.{kindOf}
 use Rattle.record.specs.declared.Event.{Event}
 use Rattle.table.specs.Events.{sizesFit}
 use Rattle.basics.proofs.Tests.{if}
+use Rattle.basics.proofs.Unique.{answer-unique}
 use Rattle.numbers.proofs.Sizes.{number-size}
 use Rattle.schedule.specs.declared.Header.{Header}
 use Rattle.schedule.specs.declared.Cursor.{Cursor}
@@ -23,17 +24,17 @@ use Rattle.schedule.specs.Writing.{Wrote, room, put, answered, writtenHe
 -- ---- the reader
 
 pub start-unique : (r s : Cursor) → r ≡ start → s ≡ start → r ≡ s
-start-unique r s e f = e ∙ sym f
+start-unique r s e f = answer-unique e f
 
 pub read-header-unique : (bytes : List ℕ) (cursor : Cursor) (r s : HeaderRead) → r ≡ headerAt bytes cursor
     → s ≡ headerAt bytes cursor
     → r ≡ s
-read-header-unique bytes cursor r s e f = e ∙ sym f
+read-header-unique bytes cursor r s e f = answer-unique e f
 
 pub read-event-unique : (bytes : List ℕ) (cursor : Cursor) (r s : EventRead) → r ≡ eventAt bytes cursor
     → s ≡ eventAt bytes cursor
     → r ≡ s
-read-event-unique bytes cursor r s e f = e ∙ sym f
+read-event-unique bytes cursor r s e f = answer-unique e f
 
 -- ---- the writer: no two answers stand for the same numbers, since a write takes a byte at least
 
@@ -68,7 +69,7 @@ header-some h = simp length-append (omega (arith, number-size (h .nodes)))
 
 event-some : (e : Event) → 1 ≤ length (eventBytes e)
 unfolding eventBytes
-event-some e = simp length-append (omega (arith, number-size (kindOf e)))
+event-some e = simp length-append (omega (arith, number-size (kindOf (e .action))))
 
 module _ (out : List ℕ) (at : ℕ) (x y : List ℕ) (r s : Written) where
   pub write-header-unique : (h : Header) → answered x at r ≡ writtenHeader h out at

@@ -1,4 +1,4 @@
--- What the reader's definitions give by what its calls answered: one law for each way out of its functions. Rests on Places.
+-- What the reader's definitions give by what its calls answered: one law for each way out of its functions. Rests on the numbers' ReadAt.
 use Prim.Native.Nat.{ℕ, _-_, _<_, _≤_}
 use mathlib.Core.Bool.{Bool, true, false, cond, _&&_}
 use mathlib.Core.List.{List, []}
@@ -10,14 +10,16 @@ use lib.ListN.{length, drop, drop-of-length-le}
 use lib.Seq.{drop-cons}
 use Rattle.record.specs.Record.{process, address}
 use Rattle.record.specs.declared.Process.{Process}
+use Rattle.record.specs.Event.{eventOf}
+use Rattle.record.specs.declared.Action.{Action}
+use Rattle.record.specs.declared.Action.the-variants.{Step}
 use Rattle.record.specs.declared.Event.{Event}
-use Rattle.record.specs.declared.Event.the-variants.{Step}
 use Rattle.table.specs.Events.{sizesFit}
 use Rattle.numbers.specs.declared.NumberRead.{NumberRead}
 use Rattle.numbers.specs.declared.NumberRead.the-variants as number
 use Rattle.numbers.specs.Numbers.{got, stops, _then_}
-use Rattle.numbers.specs.Places.{placeIn, numberAt}
-use Rattle.numbers.proofs.Places.{place-of-drop, got-number, refused-number}
+use Rattle.numbers.specs.ReadAt.{placeIn, numberAt}
+use Rattle.numbers.proofs.ReadAt.{place-of-drop, got-number, refused-number}
 use Rattle.schedule.specs.declared.Header.{Header}
 use Rattle.schedule.specs.declared.Cursor.{Cursor}
 use Rattle.schedule.specs.declared.HeaderRead.{HeaderRead}
@@ -25,7 +27,7 @@ use Rattle.schedule.specs.declared.HeaderRead.the-variants as header
 use Rattle.schedule.specs.declared.EventRead.{EventRead}
 use Rattle.schedule.specs.declared.EventRead.the-variants as event
 use Rattle.schedule.specs.Encoding.{burst}
-use Rattle.schedule.specs.Reading.{readHeader, request, move, readBurst, readRest, readItem, item, refuses, nextItem}
+use Rattle.schedule.specs.Reading.{readHeader, requestOfKind, moveOfKind, readBurst, readRest, readItem, item, refuses, nextItem}
 use Rattle.schedule.specs.Cursors.{cursorIn, cursorAt, headerRead, headerAt, eventRead, eventAt}
 use Rattle.schedule.specs.Inside.Continuing.{sizedAt, readAs, burstOf, burstAt, requestAt, restAt, itemAt}
 
@@ -82,10 +84,10 @@ module _ (file : List ℕ) (p : Process) (at : ℕ) where
     burst-refused n e = rw (refused-number file at n read is e)
 
     module _ (kind : ℕ) where
-      pub request-addressed : (a next : ℕ) → read ≡ number.Got a next → (e : Event) → e ≡ request kind p (address a)
-          → (after : Cursor) → after ≡ cursorAt next → event.Got e after ≡ requestAt file kind p at
+      pub request-addressed : (a next : ℕ) → read ≡ number.Got a next → (x : Action) → x ≡ requestOfKind kind (address a)
+          → (after : Cursor) → after ≡ cursorAt next → event.Got (eventOf p x) after ≡ requestAt file kind p at
       unfolding requestAt _then_
-      request-addressed a next e r is-request after is-after =
+      request-addressed a next e x is-request after is-after =
           let g = got-number file at a next read is e in rw (is-request, is-after, g .reads, place-of-drop file next (g .inside))
 
       pub request-refused : (n : ℕ) → read ≡ number.Refused n → event.Refused n ≡ requestAt file kind p at
@@ -97,10 +99,10 @@ module _ (file : List ℕ) (p : Process) (at : ℕ) where
     unfolding requestAt restAt readRest
     rest-request h r e = rw (le-leb kind 2 h) e
 
-    pub rest-move : 2 < kind → kind ≤ 5 → at ≤ length file → (e : Event) → e ≡ move kind p → (after : Cursor) → after ≡ cursorAt at
-        → event.Got e after ≡ restAt file kind p at
+    pub rest-move : 2 < kind → kind ≤ 5 → at ≤ length file → (x : Action) → x ≡ moveOfKind kind → (after : Cursor) → after ≡ cursorAt at
+        → event.Got (eventOf p x) after ≡ restAt file kind p at
     unfolding restAt readRest
-    rest-move h k inside e is after is-after =
+    rest-move h k inside x is after is-after =
         rw (is, is-after, lt-leb kind 2 h, le-leb kind 5 k, place-of-drop file at inside)
 
     pub rest-burst : 5 < kind → (r : EventRead) → r ≡ burstAt file p at → r ≡ restAt file kind p at
@@ -132,10 +134,10 @@ module _ (file : List ℕ) (at : ℕ) (first : NumberRead) (is : first ≡ numbe
           rw (got-number file at kind next first is e .reads, le-ltb 6 kind below, got-number file next p after second is′ e′ .reads) is-rest
 
 module _ (file : List ℕ) (c : Cursor) where
-  pub burst-goes-on : 0 < c .left
-      → event.Got (Step (c .process)) (cursorIn (c .at) (c .process) (c .left - 1)) ≡ eventAt file c
+  pub burst-goes-on : 0 < c .left → (e : Event) → e ≡ eventOf (c .process) Step
+      → event.Got e (cursorIn (c .at) (c .process) (c .left - 1)) ≡ eventAt file c
   unfolding eventAt
-  burst-goes-on h = rw (lt-ltb 0 (c .left) h)
+  burst-goes-on h e is = rw (is, lt-ltb 0 (c .left) h)
 
   module _ (none : c .left ≤ 0) where
     pub file-ends : length file ≤ c .at → event.End ≡ eventAt file c

@@ -6,9 +6,10 @@ use lib.Dec.{ltb}
 use lib.ListN.{length, drop}
 use Rattle.record.specs.Record.{process}
 use Rattle.record.specs.declared.Process.{Process}
-use Rattle.record.specs.declared.Event.the-variants.{Step}
+use Rattle.record.specs.Event.{eventOf}
+use Rattle.record.specs.declared.Action.the-variants.{Step}
 use Rattle.numbers.specs.Numbers.{Read, got, stops}
-use Rattle.numbers.specs.Places.{placeIn}
+use Rattle.numbers.specs.ReadAt.{placeIn}
 use Rattle.schedule.specs.declared.Header.{Header}
 use Rattle.schedule.specs.declared.Cursor.{Cursor}
 use Rattle.schedule.specs.declared.HeaderRead.{HeaderRead}
@@ -43,7 +44,7 @@ headerRead place (stops n) = header.Refused n
 abbrev pub eventRead : (place : List ℕ → ℕ) → NextItem → EventRead
 eventRead place end = event.End
 eventRead place (item (single e) left) = event.Got e (cursorAt (place left))
-eventRead place (item (burst p count) left) = event.Got (Step p) (cursorIn (place left) p (count - 1))
+eventRead place (item (burst p count) left) = event.Got (eventOf p Step) (cursorIn (place left) p (count - 1))
 eventRead place (refuses n) = event.Refused n
 
 -- ---- at a place of a file

@@ -3,11 +3,11 @@ use mathlib.Core.List.{List, [], _∷_, _++_}
 use mathlib.Core.Option.{Option, none, some}
 use Prim.Native.Nat.{ℕ}
 use lib.ListN.{replicate}
-use Rattle.record.specs.Event.{kindOf, processOf, addressOf}
+use Rattle.record.specs.Event.{kindOf, addressOf, eventOf}
 use Rattle.record.specs.declared.Process.{Process}
 use Rattle.record.specs.declared.Address.{Address}
+use Rattle.record.specs.declared.Action.the-variants.{Step}
 use Rattle.record.specs.declared.Event.{Event}
-use Rattle.record.specs.declared.Event.the-variants.{Step}
 use Rattle.numbers.specs.Numbers.{numberBytes}
 use Rattle.schedule.specs.declared.Header.{Header}
 
@@ -21,7 +21,7 @@ addressBytes none = []
 addressBytes (some a) = numberBytes (a .0)
 
 unfoldable pub eventBytes : Event → List ℕ
-eventBytes e = numberBytes (kindOf e) ++ (numberBytes (processOf e .0) ++ addressBytes (addressOf e))
+eventBytes e = numberBytes (kindOf (e .action)) ++ (numberBytes (e .process .0) ++ addressBytes (addressOf (e .action)))
 
 -- what stands in a file after its header: an event, or a burst
 pub data Item : Type 0 where
@@ -45,4 +45,4 @@ fileBytes h items = headerBytes h ++ itemsBytes items
 unfoldable pub eventsOf : List Item → List Event
 eventsOf [] = []
 eventsOf (single e ∷ items) = e ∷ eventsOf items
-eventsOf (burst p count ∷ items) = replicate count (Step p) ++ eventsOf items
+eventsOf (burst p count ∷ items) = replicate count (eventOf p Step) ++ eventsOf items

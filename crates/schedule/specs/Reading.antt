@@ -7,8 +7,9 @@ use lib.ListN.{length}
 use Rattle.record.specs.Record.{process, address}
 use Rattle.record.specs.declared.Process.{Process}
 use Rattle.record.specs.declared.Address.{Address}
-use Rattle.record.specs.declared.Event.{Event}
-use Rattle.record.specs.declared.Event.the-variants.{Insert, Delete, Find, Step, Stop, Restart}
+use Rattle.record.specs.Event.{eventOf}
+use Rattle.record.specs.declared.Action.{Action}
+use Rattle.record.specs.declared.Action.the-variants.{Insert, Delete, Find, Step, Stop, Restart}
 use Rattle.table.specs.Events.{sizesFit}
 use Rattle.numbers.specs.Numbers.{Read, got, stops, _then_, readNumber}
 use Rattle.schedule.specs.declared.Header.{Header}
@@ -25,12 +26,12 @@ readHeader s =
 
 -- ---- an event
 
--- the event of a kind from 0 to 2, and from 3 to 5
-abbrev pub request : (kind : ℕ) → Process → Address → Event
-request kind p a = cond (eqb kind 0) (Insert p a) (cond (eqb kind 1) (Delete p a) (Find p a))
+-- the action of a kind from 0 to 2, which has an address, and from 3 to 5
+abbrev pub requestOfKind : (kind : ℕ) → Address → Action
+requestOfKind kind a = cond (eqb kind 0) (Insert a) (cond (eqb kind 1) (Delete a) (Find a))
 
-abbrev pub move : (kind : ℕ) → Process → Event
-move kind p = cond (eqb kind 3) (Step p) (cond (eqb kind 4) (Stop p) (Restart p))
+abbrev pub moveOfKind : (kind : ℕ) → Action
+moveOfKind kind = cond (eqb kind 3) Step (cond (eqb kind 4) Stop Restart)
 
 -- "burst count not 1 to 255"
 unfoldable pub readBurst : Process → List ℕ → Read Item
@@ -38,8 +39,8 @@ readBurst p s = readNumber s then λ count s. cond (leb 1 count && leb count 255
 
 unfoldable pub readRest : (kind : ℕ) → Process → List ℕ → Read Item
 readRest kind p s =
-    cond (leb kind 2) (readNumber s then λ a s. got (single (request kind p (address a))) s)
-    (cond (leb kind 5) (got (single (move kind p)) s) (readBurst p s))
+    cond (leb kind 2) (readNumber s then λ a s. got (single (eventOf p (requestOfKind kind (address a)))) s)
+    (cond (leb kind 5) (got (single (eventOf p (moveOfKind kind))) s) (readBurst p s))
 
 -- "the kind is judged before the process number is read"
 unfoldable pub readItem : List ℕ → Read Item

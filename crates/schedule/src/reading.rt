@@ -5,13 +5,16 @@ use crate::Header;
 use crate::HeaderRead;
 use numbers::NumberRead;
 use numbers::read_number;
+use record::Action;
 use record::Address;
 use record::Event;
 use record::Process;
 ghost use mathlib.Core.Path.{_≡_};
 ghost use Prim.Native.Nat.{_≤_};
 ghost use lib.ListN.{length};
-ghost use Rattle.schedule.specs.Reading.{request, move};
+ghost use Rattle.record.specs.Event.{eventOf};
+ghost use Rattle.record.specs.declared.Action.the-variants.{Step};
+ghost use Rattle.schedule.specs.Reading.{requestOfKind, moveOfKind};
 ghost use Rattle.schedule.specs.Cursors.{cursorAt, headerAt, eventAt};
 ghost use Rattle.schedule.specs.Inside.Continuing.{sizedAt, burstOf, burstAt, requestAt, restAt, itemAt};
 
@@ -60,29 +63,39 @@ pub fn read_header(bytes: &[u8], cursor: Cursor) -> HeaderRead
 }
 
 // The request of a kind from 0 to 2.
-fn request(kind: u32, process: Process, claimed: Address) -> Event
-    ensures { λ r. ⌜ r ≡ request kind process claimed ⌝ }
+fn request_of_kind(kind: u32, claimed: Address) -> Action
+    ensures { λ r. ⌜ r ≡ requestOfKind kind claimed ⌝ }
 {
     if kind == 0 {
-        return Event::Insert(process, claimed);
+        return Action::Insert(claimed);
     }
     if kind == 1 {
-        return Event::Delete(process, claimed);
+        return Action::Delete(claimed);
     }
-    Event::Find(process, claimed)
+    Action::Find(claimed)
 }
 
 // The step, stop or restart of a kind from 3 to 5.
-fn move_of(kind: u32, process: Process) -> Event
-    ensures { λ r. ⌜ r ≡ move kind process ⌝ }
+fn move_of_kind(kind: u32) -> Action
+    ensures { λ r. ⌜ r ≡ moveOfKind kind ⌝ }
 {
     if kind == 3 {
-        return Event::Step(process);
+        return Action::Step;
     }
     if kind == 4 {
-        return Event::Stop(process);
+        return Action::Stop;
     }
-    Event::Restart(process)
+    Action::Restart
+}
+
+// A step of a burst.
+fn step_by(process: Process) -> Event
+    ensures { λ r. ⌜ r ≡ eventOf process Step ⌝ }
+{
+    Event {
+        process,
+        action: Action::Step,
+    }
 }
 
 // The first step of a burst, its count judged.
@@ -100,7 +113,8 @@ fn burst(process: Process, count: u32, next: usize) -> EventRead
         process,
         left: count - 1,
     };
-    EventRead::Got(Event::Step(process), after)
+    let event = step_by(process);
+    EventRead::Got(event, after)
 }
 
 // A burst, its process read.
@@ -121,7 +135,8 @@ fn read_request(bytes: &[u8], kind: u32, process: Process, at: usize) -> EventRe
     let read = read_number(bytes, at);
     match read {
         NumberRead::Got(claimed, next) => {
-            let event = request(kind, process, Address(claimed));
+            let action = request_of_kind(kind, Address(claimed));
+            let event = Event { process, action };
             let after = cursor_at(next);
             EventRead::Got(event, after)
         }
@@ -138,7 +153,8 @@ fn read_rest(bytes: &[u8], kind: u32, process: Process, at: usize) -> EventRead
         return read_request(bytes, kind, process, at);
     }
     if kind <= 5 {
-        let event = move_of(kind, process);
+        let action = move_of_kind(kind);
+        let event = Event { process, action };
         let after = cursor_at(at);
         return EventRead::Got(event, after);
     }
@@ -179,7 +195,8 @@ pub fn read_event(bytes: &[u8], cursor: Cursor) -> EventRead
             process,
             left: left - 1,
         };
-        return EventRead::Got(Event::Step(process), after);
+        let event = step_by(process);
+        return EventRead::Got(event, after);
     }
     if bytes.len() <= at {
         return EventRead::End;

@@ -1,11 +1,12 @@
 // The writer: a header or an event into the rest of the output. Room is judged before anything is written.
 use crate::Header;
 use crate::Written;
+use record::Action;
 use record::Address;
 use record::Event;
 use record::Process;
 ghost use mathlib.Core.Path.{_≡_};
-ghost use Prim.Native.Nat.{_-_, min};
+ghost use Prim.Native.Nat.{_-_, _≤_, min};
 ghost use lib.ListN.{length};
 ghost use Rattle.numbers.specs.Numbers.{numberBytes};
 ghost use Rattle.schedule.specs.Encoding.{eventBytes};
@@ -23,6 +24,7 @@ struct Numbers {
 // How many bytes a number takes.
 fn number_size(number: u32) -> usize
     ensures { λ r. ⌜ r ≡ length (numberBytes number) ⌝ }
+    ensures { λ r. ⌜ r ≤ 5 ⌝ }
 {
     let mut rest = number;
     let mut size: usize = 1;
@@ -63,6 +65,7 @@ fn room(rest: usize, at: usize) -> usize
 // How many bytes go out: all that are needed, or none.
 fn all_or_none(needed: usize, left: usize) -> usize
     ensures { λ r. ⌜ r ≡ allOrNone needed left ⌝ }
+    ensures { λ r. ⌜ r ≤ left ⌝ }
 {
     if left < needed {
         return 0;
@@ -167,13 +170,15 @@ fn request_numbers(kind: u32, process: Process, claimed: Address) -> Numbers
 fn numbers_of(event: Event) -> Numbers
     ensures { λ r. ⌜ bytesOf r ≡ eventBytes event ⌝ }
 {
-    match event {
-        Event::Insert(process, claimed) => request_numbers(0, process, claimed),
-        Event::Delete(process, claimed) => request_numbers(1, process, claimed),
-        Event::Find(process, claimed) => request_numbers(2, process, claimed),
-        Event::Step(process) => move_numbers(3, process),
-        Event::Stop(process) => move_numbers(4, process),
-        Event::Restart(process) => move_numbers(5, process),
+    let process = event.process;
+    let action = event.action;
+    match action {
+        Action::Insert(claimed) => request_numbers(0, process, claimed),
+        Action::Delete(claimed) => request_numbers(1, process, claimed),
+        Action::Find(claimed) => request_numbers(2, process, claimed),
+        Action::Step => move_numbers(3, process),
+        Action::Stop => move_numbers(4, process),
+        Action::Restart => move_numbers(5, process),
     }
 }
 

@@ -10,6 +10,8 @@ use borrow.Author.Tests.{lt-ltb, le-ltb, ltb-true, ltb-false}
 use lib.ListN.{length, take, length-append}
 use lib.Seq.{take-all, take-append-le}
 use lib.Dec.{ltb}
+use mir.Syntax.{w32}
+use mir.Val.{Fits}
 use Rattle.text.specs.Text.{digits, decimal}
 use Rattle.text.specs.Digits.{lastDigits, tens}
 
@@ -119,6 +121,9 @@ module _ (k n m : ℕ) (s : n < 4294967296) (c : k ≡ length (decimal n)) (h : 
   unfolding tens
   eight-fits = rw e (rw eight-in-all at (lifted-below (8 - k) k n (rw c (decimal-below n s))))
 
+  pub eight-fits-32 : Fits w32 (n * m)
+  eight-fits-32 = record { fits = omega (arith, eight-fits) }
+
   pub eight-begins : take k (lastDigits 8 (n * m)) ≡ decimal n
   eight-begins = rw (e, decimal-is-last n s, ← c) (rw eight-in-all at (lifted (8 - k) k n))
 
@@ -137,3 +142,6 @@ digits-length (suc k) n =
 pub decimal-length : (n : ℕ) → (1 ≤ length (decimal n)) × (length (decimal n) ≤ 10)
 unfolding decimal
 decimal-length n = digits-length 9 n
+
+pub decimal-within : (n : ℕ) (part : List ℕ) → 11 ≤ length part → length (decimal n) < length part
+decimal-within n part room = omega (arith, decimal-length n)

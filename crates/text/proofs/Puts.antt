@@ -60,6 +60,12 @@ put-then a b part mid last k m e f =
     let d : drop (length b) (drop k mid) ≡ drop (length (a ++ b)) part = rw (g, n, drop-append-seam, drop-drop, length-append) in
     stand-then a b part mid last k m (rw (g, n, take-append-seam)) n d f
 
+-- the same, where both make a text
+pub put-both : (whole a b part mid last : List ℕ) (k m : ℕ) → put mid k ≡ puts a part
+    → put last m ≡ puts b (take (length mid - k) (drop k mid)) → whole ≡ a ++ b
+    → put (putMid k (length mid - k) mid last) (k + m) ≡ puts whole part
+put-both whole a b part mid last k m e f both = rw both (put-then a b part mid last k m e f)
+
 -- bytes that begin what was put, with at most four more
 pub begun : (a written part last : List ℕ) (k m : ℕ) → put last m ≡ puts written part → take k written ≡ a → k ≡ length a → k ≤ 10
     → k ≤ length written → length written ≤ k + 4 → Begun a part last k
@@ -100,3 +106,6 @@ too-short bytes part h = rw (lt-ltb (length part) 32 h)
 pub roomy : (bytes part : List ℕ) → 32 ≤ length part → putInto bytes part ≡ puts bytes part
 unfolding putInto
 roomy bytes part h = rw (le-ltb (length part) 32 h)
+
+pub into-room : (bytes part : List ℕ) (x : Put) → x ≡ puts bytes part → 32 ≤ length part → x ≡ putInto bytes part
+into-room bytes part x e h = rw (roomy bytes part h) e

@@ -4,6 +4,7 @@ use mathlib.Core.List.{List, [], _∷_, _++_}
 use Prim.Native.Nat.{ℕ, zero, suc, _+_, _/_, _%_}
 use lib.Dec.{ltb, eqb}
 use Rattle.record.specs.Record.{False, True}
+use Rattle.record.specs.declared.Address.{Address}
 use Rattle.record.specs.declared.Outcome.{Outcome}
 use Rattle.record.specs.declared.Outcome.the-variants.{Refused, Accepted, Answered}
 
@@ -47,14 +48,17 @@ outcomeText (Refused n) = refusedWord ++ (space ∷ decimal n)
 outcomeText Accepted = okWord
 outcomeText (Answered v) = cond (eqb v False) falseWord (cond (eqb v True) trueWord failWord)
 
--- "one line per event: its number from 0, then .."
+-- "one line per event: its number from 0, then .."; what follows the number
+abbrev pub lineEnd : Outcome → List ℕ
+lineEnd o = space ∷ outcomeText o ++ (newline ∷ [])
+
 unfoldable pub line : ℕ → Outcome → List ℕ
-line number o = decimal number ++ (space ∷ outcomeText o ++ (newline ∷ []))
+line number o = decimal number ++ lineEnd o
 
 -- "`keys`, then the address of every node .., decimal, each after a space"
-unfoldable pub addressesText : List ℕ → List ℕ
+unfoldable pub addressesText : List Address → List ℕ
 addressesText [] = []
-addressesText (a ∷ as′) = space ∷ decimal a ++ addressesText as′
+addressesText (a ∷ more) = space ∷ decimal (a .0) ++ addressesText more
 
-unfoldable pub keysLine : List ℕ → List ℕ
+unfoldable pub keysLine : List Address → List ℕ
 keysLine addresses = keysWord ++ (addressesText addresses ++ (newline ∷ []))

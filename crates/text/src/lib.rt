@@ -1,11 +1,11 @@
-// Text put at the start of a lent part of a block: a line, an address of the last line, its first word and its end.
+// Text put at the start of a lent part of a block: a line, an address of the last line, its first word and its end; an outcome, and a number.
 // Each writer answers how many bytes it put; a part of fewer than 32 bytes is left as it is. Rests on the text of 01, specs/Text.
 // The number of a line is spelt eight digits at once, in one word; specs/Digits has what those writers say among themselves.
 ghost use mathlib.Core.Path.{_≡_};
 ghost use mathlib.Core.List.{[], _∷_, _++_};
 ghost use Prim.Native.Nat.{_-_, _<_, _≤_};
 ghost use lib.ListN.{length};
-ghost use Rattle.text.specs.Text.{decimal, space, newline, keysWord, outcomeText, line};
+ghost use Rattle.text.specs.Text.{decimal, space, newline, keysWord, outcomeText, lineEnd, line};
 ghost use Rattle.text.specs.Digits.{lastDigits, word, pairsOf, tens, Begun};
 ghost use Rattle.text.specs.Put.{put, puts, putInto};
 ghost use Rattle.record.specs.declared.Outcome.the-variants.{Refused, Answered};
@@ -133,7 +133,7 @@ fn lift(count: usize) -> u32
 }
 
 // The number of a line, where at least four bytes are to follow: no more than four past the number are changed, and those take their place.
-fn put_number(part: &mut [u8], n: u32) -> usize
+fn put_line_number(part: &mut [u8], n: u32) -> usize
     requires { ⌜ 14 ≤ length (now part) ⌝ }
     ensures { λ r. ⌜ Begun (decimal n) (now (part .entry)) (now (part .exit)) r ⌝ }
 {
@@ -152,7 +152,7 @@ fn put_number(part: &mut [u8], n: u32) -> usize
 fn put_text(part: &mut [u8], text: &[u8]) -> usize
     requires { ⌜ length (now text) ≤ length (now part) ⌝ }
     ensures { λ r. ⌜ put (now (part .exit)) r ≡ puts (now (text .entry)) (now (part .entry)) ⌝ }
-    ensures { λ r. ⌜ r ≤ length (now (text .entry)) ⌝ }
+    ensures { λ r. ⌜ r ≡ length (now (text .entry)) ⌝ }
 {
     let mut i: usize = 0;
     while i < text.len() {
@@ -191,7 +191,7 @@ fn put_ended(part: &mut [u8], n: u32) -> usize
 // ` refused N` and the end of the line.
 fn put_refused(part: &mut [u8], number: u8) -> usize
     requires { ⌜ 20 ≤ length (now part) ⌝ }
-    ensures { λ r. ⌜ put (now (part .exit)) r ≡ puts (space ∷ outcomeText (Refused number) ++ (newline ∷ [])) (now (part .entry)) ⌝ }
+    ensures { λ r. ⌜ put (now (part .exit)) r ≡ puts (lineEnd (Refused number)) (now (part .entry)) ⌝ }
     ensures { λ r. ⌜ r ≤ 20 ⌝ }
 {
     let k = put_text(part, b" refused ");
@@ -202,7 +202,7 @@ fn put_refused(part: &mut [u8], number: u8) -> usize
 // ` false`, ` true` or ` fail` and the end of the line.
 fn put_answer(part: &mut [u8], answer: u8) -> usize
     requires { ⌜ 20 ≤ length (now part) ⌝ }
-    ensures { λ r. ⌜ put (now (part .exit)) r ≡ puts (space ∷ outcomeText (Answered answer) ++ (newline ∷ [])) (now (part .entry)) ⌝ }
+    ensures { λ r. ⌜ put (now (part .exit)) r ≡ puts (lineEnd (Answered answer)) (now (part .entry)) ⌝ }
     ensures { λ r. ⌜ r ≤ 20 ⌝ }
 {
     if answer == FALSE {
@@ -215,9 +215,10 @@ fn put_answer(part: &mut [u8], answer: u8) -> usize
 }
 
 // What an event came to, after a space, and the end of the line.
-fn put_outcome(part: &mut [u8], outcome: Outcome) -> usize
+fn put_line_end(part: &mut [u8], outcome: Outcome) -> usize
     requires { ⌜ 20 ≤ length (now part) ⌝ }
-    ensures { λ r. ⌜ put (now (part .exit)) r ≡ puts (space ∷ outcomeText outcome ++ (newline ∷ [])) (now (part .entry)) ⌝ }
+    ensures { λ r. ⌜ put (now (part .exit)) r ≡ puts (lineEnd outcome) (now (part .entry)) ⌝ }
+    ensures { λ r. ⌜ 4 ≤ r ⌝ }
     ensures { λ r. ⌜ r ≤ 20 ⌝ }
 {
     match outcome {
@@ -235,9 +236,22 @@ pub fn put_line(part: &mut [u8], number: u32, outcome: Outcome) -> usize
     if part.len() < 32 {
         return 0;
     }
-    let k = put_number(part, number);
-    let m = put_outcome(&mut part[k..], outcome);
+    let k = put_line_number(part, number);
+    let m = put_line_end(&mut part[k..], outcome);
     k + m
+}
+
+// What an event came to: as the line of an event ends, without the space before it and the end of the line.
+pub fn put_outcome(part: &mut [u8], outcome: Outcome) -> usize
+    ensures { λ r. ⌜ put (now (part .exit)) r ≡ putInto (outcomeText outcome) (now (part .entry)) ⌝ }
+    ensures { λ r. ⌜ r ≤ 18 ⌝ }
+{
+    if part.len() < 32 {
+        return 0;
+    }
+    let mut end = [0u8; 20];
+    let k = put_line_end(&mut end, outcome);
+    put_text(part, &end[1..k - 1])
 }
 
 // The first word of the last line.
@@ -251,17 +265,25 @@ pub fn put_keys(part: &mut [u8]) -> usize
     put_text(part, b"keys")
 }
 
-// An address of the last line, after a space.
-pub fn put_address(part: &mut [u8], address: Address) -> usize
-    ensures { λ r. ⌜ put (now (part .exit)) r ≡ putInto (space ∷ decimal (address .0)) (now (part .entry)) ⌝ }
+// A number after a space.
+pub fn put_number(part: &mut [u8], number: u32) -> usize
+    ensures { λ r. ⌜ put (now (part .exit)) r ≡ putInto (space ∷ decimal number) (now (part .entry)) ⌝ }
     ensures { λ r. ⌜ r ≤ 11 ⌝ }
 {
     if part.len() < 32 {
         return 0;
     }
     let k = put_byte(part, b' ');
-    let m = put_decimal(&mut part[k..], address.0);
+    let m = put_decimal(&mut part[k..], number);
     k + m
+}
+
+// An address of the last line, after a space.
+pub fn put_address(part: &mut [u8], address: Address) -> usize
+    ensures { λ r. ⌜ put (now (part .exit)) r ≡ putInto (space ∷ decimal (address .0)) (now (part .entry)) ⌝ }
+    ensures { λ r. ⌜ r ≤ 11 ⌝ }
+{
+    put_number(part, address.0)
 }
 
 // The end of the last line.

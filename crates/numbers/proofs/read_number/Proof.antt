@@ -1,12 +1,11 @@
 -- The loop keeps what was gathered with what is left to read; its laws are in Gathers.
 use Prim.Native.Nat.{_-_}
-use mathlib.Core.Path.{_≡_, refl, sym, _∙_}
-use native.Mathlib.Omega.{arith}
+use mathlib.Core.Path.{_≡_, refl}
 use borrow.Author.Needs.{needs}
 use lib.ListN.{take, drop}
 use Rattle.numbers.specs.Numbers.{readNumber}
-use Rattle.numbers.proofs.Gathers.{afterGroups, behind, still-groups, Gathered, none-gathered, one-gathered}
-use Rattle.numbers.proofs.Gathers.{gathered, byte-missing, last-judged, no-last-group}
+use Rattle.numbers.proofs.Gathers.{afterGroups, behind, still-groups, Gathered, none-gathered, group-more}
+use Rattle.numbers.proofs.Gathers.{byte-missing, last-judged, no-last-group}
 use Rattle.numbers.proofs.read_number.Statement.{statement}
 use Rattle.numbers.proofs.read_number.Tie as tie
 
@@ -49,11 +48,7 @@ loop-less : tie.Need-loop-less Inv-loop μ-loop
 loop-less c = search needs
 
 loop-again : tie.Need-loop-again Inv-loop μ-loop
-loop-again c =
-    let l = c .before .before .before .before .loop in
-    let a = c .before .before .before .before .before .before .args in
-    one-gathered (l .count) (l .groups) _ (omega arith) (omega (arith, c .before .shared-slice-known2 .given (l .next))) (l .inv)
-    (sym (gathered (a .bytes .now) (l .groups) (l .count) (l .next) (omega arith) (l .inv .five) (omega arith) (omega arith)) ∙ l .inv .whole)
+loop-again c = search (needs, group-more, c .before .shared-slice-known2 .given)
 
 returns-3 : tie.Need-returns-3 Inv-loop μ-loop
 returns-3 c = search (needs, no-last-group)

@@ -1,4 +1,4 @@
--- Four groups of seven bits and a fifth below 16 make a number of 32 bits, summed from the highest down.
+-- Four groups of seven bits and a fifth below 16 make a number of 32 bits, summed from the highest down. Rests on arithmetic alone.
 use native.Mathlib.Omega.{arith}
 use borrow.Author.Needs.{needs}
 use Rattle.numbers.proofs.sum.Statement.{statement}

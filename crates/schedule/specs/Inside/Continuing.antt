@@ -5,14 +5,15 @@ use Prim.Native.Nat.{ℕ}
 use lib.Dec.{leb}
 use lib.ListN.{drop}
 use Rattle.record.specs.Record.{address}
+use Rattle.record.specs.Event.{eventOf}
 use Rattle.record.specs.declared.Process.{Process}
 use Rattle.table.specs.Events.{sizesFit}
 use Rattle.numbers.specs.Numbers.{Read, got, stops, _then_, readNumber}
-use Rattle.numbers.specs.Places.{placeIn}
+use Rattle.numbers.specs.ReadAt.{placeIn}
 use Rattle.schedule.specs.declared.HeaderRead.{HeaderRead}
 use Rattle.schedule.specs.declared.EventRead.{EventRead}
 use Rattle.schedule.specs.Encoding.{Item, single, burst}
-use Rattle.schedule.specs.Reading.{request, readBurst, readRest, readItem, item, refuses, standing}
+use Rattle.schedule.specs.Reading.{requestOfKind, readBurst, readRest, readItem, item, refuses, standing}
 use Rattle.schedule.specs.Cursors.{headerRead, eventRead}
 
 -- the numbers of a header, read, with the next place
@@ -33,7 +34,7 @@ unfoldable pub burstAt : List ℕ → Process → ℕ → EventRead
 burstAt file p at = readAs file (readBurst p (drop at file))
 
 unfoldable pub requestAt : List ℕ → (kind : ℕ) → Process → ℕ → EventRead
-requestAt file kind p at = readAs file (readNumber (drop at file) then λ a s. got (single (request kind p (address a))) s)
+requestAt file kind p at = readAs file (readNumber (drop at file) then λ a s. got (single (eventOf p (requestOfKind kind (address a)))) s)
 
 unfoldable pub restAt : List ℕ → (kind : ℕ) → Process → ℕ → EventRead
 restAt file kind p at = readAs file (readRest kind p (drop at file))

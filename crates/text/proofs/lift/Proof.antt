@@ -1,4 +1,4 @@
--- Each count that lacks digits, and the others, that lack none.
+-- Each count that lacks digits, and the others, that lack none. Rests on Digits.
 use native.Mathlib.Omega.{arith}
 use mathlib.Core.Path.{_≡_}
 use Prim.Native.Nat.{_-_}

@@ -1,5 +1,4 @@
--- The hundreds of both halves at once, and what is left of them.
-use Prim.Native.Nat.{_/_, _%_}
+-- The hundreds of both halves at once, and what is left of them. Rests on Lanes.
 use mathlib.Core.Path.{_∙_}
 use native.Mathlib.Omega.{arith}
 use native.Mathlib.Nat.{le-add-right, add-sub-cancel-left}

@@ -1,4 +1,4 @@
--- Each test tells one more digit.
+-- Each test tells one more digit. Rests on Decimal.
 use native.Mathlib.Omega.{arith}
 use borrow.Author.Needs.{needs}
 use Rattle.text.proofs.Decimal.{places-more}

@@ -1,4 +1,4 @@
--- Each test tells one digit less.
+-- Each test tells one digit less. Rests on Decimal.
 use native.Mathlib.Omega.{arith}
 use Rattle.text.proofs.Decimal.{places-one, places-more}
 use Rattle.text.proofs.places_few.Statement.{statement}

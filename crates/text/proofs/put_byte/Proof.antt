@@ -1,4 +1,4 @@
--- One byte stored at the start.
+-- One byte stored at the start. Rests on Puts.
 use mathlib.Core.List.{[], _∷_}
 use Rattle.text.proofs.Puts.{put-stored}
 use borrow.Author.Needs.{needs}

@@ -1,4 +1,4 @@
--- What is spelt so far, and the digits left before it, is the number before what stood there.
+-- What is spelt so far, and the digits left before it, is the number before what stood there. Rests on Decimal and Puts.
 use Prim.Native.Nat.{ℕ, suc, _+_, _-_, _≤_}
 use mathlib.Core.List.{List, _++_}
 use mathlib.Core.Path.{_≡_, refl, ap, sym, _∙_}

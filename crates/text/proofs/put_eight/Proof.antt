@@ -1,4 +1,4 @@
--- Byte after byte of the word, the first lowest.
+-- Byte after byte of the word, the first lowest. Rests on Lanes and Puts.
 use native.Mathlib.Omega.{arith}
 use lib.ListN.{length-set}
 use Rattle.text.proofs.Lanes.{bytesOf, bytes-spelt}

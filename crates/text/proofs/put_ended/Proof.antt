@@ -1,11 +1,11 @@
--- The digits, and one byte more.
+-- The digits, and one byte more. Rests on Decimal and Puts.
 use Prim.Native.Nat.{_+_}
 use mathlib.Core.List.{[], _∷_}
 use native.Mathlib.Omega.{arith}
 use lib.ListN.{length-set}
 use Rattle.text.proofs.Puts.{put-stored, put-byte}
-use Rattle.text.specs.Text.{decimal, newline}
-use Rattle.text.proofs.Decimal.{decimal-one, decimal-length}
+use Rattle.text.specs.Text.{newline}
+use Rattle.text.proofs.Decimal.{decimal-one, decimal-within}
 use borrow.Author.Needs.{needs}
 use Rattle.text.proofs.put_ended.Statement.{statement}
 use Rattle.text.proofs.put_ended.Tie as tie
@@ -43,10 +43,7 @@ same-length-2 : tie.Need-same-length-2
 same-length-2 c = search needs
 
 returns-2 : tie.Need-returns-2
-returns-2 c =
-    let a = c .before .before .before .before .before .before .args in
-    let digits = c .before .before .put-decimal .ensures .0 in
-    (put-byte (decimal (a .n)) (a .part .now) _ _ newline digits (omega (arith, decimal-length (a .n))), omega arith)
+returns-2 c = search (needs, put-byte, decimal-within)
 
 pub put-ended-spec : {M : Type 1} → statement M
 put-ended-spec =

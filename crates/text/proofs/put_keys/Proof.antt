@@ -1,13 +1,11 @@
--- The word `keys`, where there is room.
-use native.Mathlib.Omega.{arith}
-use Rattle.text.proofs.Puts.{too-short, roomy}
-use Rattle.text.specs.Text.{keysWord}
+-- The word `keys`, where there is room. Rests on Puts.
+use Rattle.text.proofs.Puts.{too-short, into-room}
 use borrow.Author.Needs.{needs}
 use Rattle.text.proofs.put_keys.Statement.{statement}
 use Rattle.text.proofs.put_keys.Tie as tie
 
 returns : tie.Need-returns
-returns c = (too-short _ _ (search needs), search needs)
+returns c = search (needs, too-short)
 
 slice-aggregate-put-text : tie.Need-slice-aggregate-put-text
 slice-aggregate-put-text c = search needs
@@ -19,9 +17,7 @@ same-length : tie.Need-same-length
 same-length c = search needs
 
 returns-2 : tie.Need-returns-2
-returns-2 c =
-    let c7 = c .before .before .before .before .before .before .before in
-    (rw (roomy keysWord (c7 .args .part .now) (omega arith)) (c .before .before .put-text .ensures .0), omega arith)
+returns-2 c = search (needs, into-room)
 
 pub put-keys-spec : {M : Type 1} → statement M
 put-keys-spec =

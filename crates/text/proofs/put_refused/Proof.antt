@@ -1,8 +1,6 @@
--- The word, then the number into the rest.
-use mathlib.Core.List.{[], _∷_, _++_}
-use native.Mathlib.Omega.{arith}
-use Rattle.text.proofs.Puts.{put-then}
-use Rattle.text.specs.Text.{decimal, space, newline, refusedWord, outcomeText}
+-- The word, then the number into the rest. Rests on Puts.
+use Rattle.text.proofs.Puts.{put-both}
+use Rattle.text.specs.Text.{outcomeText}
 use borrow.Author.Needs.{needs}
 use Rattle.text.proofs.put_refused.Statement.{statement}
 use Rattle.text.proofs.put_refused.Tie as tie
@@ -33,15 +31,7 @@ same-length c = search needs
 
 returns : tie.Need-returns
 unfolding outcomeText
-returns c =
-    let c6 = c .before .before .before .before .before .before in
-    let c10 = c6 .before .before .before .before in
-    let a = c10 .args in
-    let word = space ∷ refusedWord ++ (space ∷ []) in (
-      put-then word (decimal (a .number) ++ (newline ∷ [])) (a .part .now) _ _ _ _
-          (c6 .put-text .ensures .0) (c .before .before .put-ended .ensures .0),
-      omega arith,
-    )
+returns c = search (needs, put-both)
 
 pub put-refused-spec : {M : Type 1} → statement M
 put-refused-spec =

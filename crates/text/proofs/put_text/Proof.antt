@@ -1,4 +1,4 @@
--- The bytes copied so far stand before what stood there.
+-- The bytes copied so far stand before what stood there. Rests on the basics' Rest.
 use mathlib.Core.Path.{_≡_}
 use Prim.Native.Nat.{_≤_, _-_}
 use native.Mathlib.Omega.{arith}

@@ -1,4 +1,4 @@
--- The tens of all four pairs at once, and what is left of them.
+-- The tens of all four pairs at once, and what is left of them. Rests on Lanes.
 use native.Mathlib.Omega.{arith}
 use native.Mathlib.Nat.{le-add-right, add-sub-cancel-left}
 use borrow.Author.Needs.{needs}

@@ -1,4 +1,4 @@
--- The law of each way out is in WaysOut.
+-- A burst, by what its count gave. The law of each way out is in WaysOut.
 use borrow.Author.Needs.{needs}
 use Rattle.schedule.proofs.WaysOut.{burst-counted, burst-refused}
 use Rattle.schedule.proofs.reading.read_burst.Statement.{statement}

@@ -1,4 +1,4 @@
--- The law of each way out is in WaysOut.
+-- A header read, or refused: by what its two numbers gave. The law of each way out is in WaysOut.
 use borrow.Author.Needs.{needs}
 use Rattle.schedule.proofs.WaysOut.{header-too-long, header-first-refused, header-second-refused, header-sized}
 use Rattle.schedule.proofs.reading.read_header.Statement.{statement}

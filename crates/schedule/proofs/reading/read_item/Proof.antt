@@ -1,6 +1,6 @@
--- The law of each way out is in WaysOut.
+-- An event, by what its kind and its process gave. The law of each way out is in WaysOut.
 use borrow.Author.Needs.{needs}
-use Rattle.numbers.proofs.Places.{number-inside}
+use Rattle.numbers.proofs.ReadAt.{number-inside}
 use Rattle.schedule.proofs.WaysOut.{kind-refused, kind-above, process-refused, process-read}
 use Rattle.schedule.proofs.reading.read_item.Statement.{statement}
 use Rattle.schedule.proofs.reading.read_item.Tie as tie

@@ -1,4 +1,4 @@
--- The law of each way out is in WaysOut.
+-- A request, by what its address gave. The law of each way out is in WaysOut.
 use borrow.Author.Needs.{needs}
 use Rattle.schedule.proofs.WaysOut.{request-addressed, request-refused}
 use Rattle.schedule.proofs.reading.read_request.Statement.{statement}
@@ -10,8 +10,8 @@ read-number-requires c κs = search needs
 enum-known-read : tie.Need-enum-known-read
 enum-known-read c = search needs
 
-request-requires : tie.Need-request-requires
-request-requires c κs = search needs
+request-of-kind-requires : tie.Need-request-of-kind-requires
+request-of-kind-requires c κs = search needs
 
 cursor-at-requires : tie.Need-cursor-at-requires
 cursor-at-requires c κs = search needs
@@ -31,7 +31,7 @@ read-request-spec =
     (tie.spec
     read-number-requires
     enum-known-read
-    request-requires
+    request-of-kind-requires
     cursor-at-requires
     enum-known-read-2
     returns

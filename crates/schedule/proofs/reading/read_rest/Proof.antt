@@ -1,4 +1,4 @@
--- The law of each way out is in WaysOut.
+-- What follows the process, by the kind. The law of each way out is in WaysOut.
 use borrow.Author.Needs.{needs}
 use Rattle.schedule.proofs.WaysOut.{rest-request, rest-move, rest-burst}
 use Rattle.schedule.proofs.reading.read_rest.Statement.{statement}
@@ -10,8 +10,8 @@ read-request-requires c κs = search needs
 returns : tie.Need-returns
 returns c = search (needs, rest-request)
 
-move-of-requires : tie.Need-move-of-requires
-move-of-requires c κs = search needs
+move-of-kind-requires : tie.Need-move-of-kind-requires
+move-of-kind-requires c κs = search needs
 
 cursor-at-requires : tie.Need-cursor-at-requires
 cursor-at-requires c κs = search needs
@@ -31,7 +31,7 @@ read-rest-spec =
     (tie.spec
     read-request-requires
     returns
-    move-of-requires
+    move-of-kind-requires
     cursor-at-requires
     returns-2
     read-burst-requires

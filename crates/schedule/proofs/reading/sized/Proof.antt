@@ -1,4 +1,4 @@
--- By `sizes_fit`.
+-- A header, or 7, by `sizes_fit`. Rests on Continuing.
 use mathlib.Core.Path.{sym, _∙_}
 use borrow.Author.Needs.{needs}
 use Rattle.schedule.specs.Inside.Continuing.{sizedAt}

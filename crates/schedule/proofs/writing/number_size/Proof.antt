@@ -1,4 +1,4 @@
--- The loop keeps the count so far with the bytes of the rest.
+-- The loop keeps the count so far with the bytes of the rest. Rests on the numbers' Sizes.
 use Prim.Native.Nat.{_+_, _≤_}
 use mathlib.Core.Path.{_≡_, ap}
 use native.Mathlib.Omega.{arith}
@@ -27,7 +27,9 @@ loop-again : tie.Need-loop-again Inv-loop μ-loop
 loop-again c = omega (arith, ap length (number-more (c .before .loop .rest) (omega arith) (omega arith)))
 
 returns : tie.Need-returns Inv-loop μ-loop
-returns c = omega (arith, ap length (number-last (c .before .loop .rest) (omega arith)))
+returns c =
+    let last = number-last (c .before .loop .rest) (omega arith) in
+    (omega (arith, ap length last), omega (arith, ap length last, number-size (c .before .before .args .number)))
 
 pub number-size-spec : {M : Type 1} → statement M
 number-size-spec =

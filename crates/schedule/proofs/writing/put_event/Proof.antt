@@ -1,9 +1,9 @@
--- All the bytes go out, or none; what is lent is as much (`all-put`, `none-put`).
+-- All the bytes go out, or none; what is lent is as much (`all-put`, `none-put`). Rests on Lays and BytesNeeded.
 use native.Mathlib.Omega.{arith}
 use borrow.Author.Needs.{needs}
 use lib.ListN.{length-take}
-use Rattle.schedule.proofs.Parts.{all-some}
-use Rattle.schedule.proofs.Lays.{within-room, none-put, all-put}
+use Rattle.schedule.proofs.BytesNeeded.{all-some}
+use Rattle.schedule.proofs.Lays.{none-put, all-put}
 use Rattle.schedule.proofs.writing.put_event.Statement.{statement}
 use Rattle.schedule.proofs.writing.put_event.Tie as tie
 
@@ -17,10 +17,10 @@ all-or-none-requires : tie.Need-all-or-none-requires
 all-or-none-requires c κs = search needs
 
 slice-relend-prefix-put-numbers : tie.Need-slice-relend-prefix-put-numbers
-slice-relend-prefix-put-numbers c = omega (arith, within-room _ _ _ (c .all-or-none .ensures))
+slice-relend-prefix-put-numbers c = search needs
 
 slice-aggregate-put-numbers : tie.Need-slice-aggregate-put-numbers
-slice-aggregate-put-numbers c = simp length-take (omega (arith, within-room _ _ _ (c .before .all-or-none .ensures)))
+slice-aggregate-put-numbers c = simp length-take (omega arith)
 
 put-numbers-requires : tie.Need-put-numbers-requires
 put-numbers-requires c κs = search needs
@@ -32,7 +32,7 @@ returns : tie.Need-returns
 returns c = search (needs, none-put)
 
 add-t7 : tie.Need-add-t7
-add-t7 c = omega (arith, within-room _ _ _ (c .before .before .before .before .before .all-or-none .ensures))
+add-t7 c = search needs
 
 same-length-2 : tie.Need-same-length-2
 same-length-2 c = search needs

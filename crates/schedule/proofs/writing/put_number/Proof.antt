@@ -1,10 +1,10 @@
--- The loop keeps the bytes so far with those to come; its laws are in Puts.
+-- The loop keeps the bytes so far with those to come; its laws are in PutNumber.
 use Prim.Native.Nat.{_-_, _≤_}
 use native.Mathlib.Omega.{arith}
 use borrow.Author.Needs.{needs}
 use lib.ListN.{length}
 use Rattle.numbers.specs.Numbers.{numberBytes}
-use Rattle.schedule.proofs.Puts.{Putting, none-put, one-put, last-put, full-put}
+use Rattle.schedule.proofs.PutNumber.{Putting, none-put, one-put, last-put, full-put}
 use Rattle.schedule.proofs.writing.put_number.Statement.{statement}
 use Rattle.schedule.proofs.writing.put_number.Tie as tie
 

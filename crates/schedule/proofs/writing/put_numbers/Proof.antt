@@ -1,4 +1,4 @@
--- The first number, then the others in the rest (`fitted-then`).
+-- The first number, then the others in the rest (`fitted-then`). Rests on Lays.
 use borrow.Author.Needs.{needs}
 use Rattle.schedule.proofs.Lays.{fitted-then}
 use Rattle.schedule.proofs.writing.put_numbers.Statement.{statement}

@@ -1,4 +1,4 @@
--- The second number, then the third in the rest (`three-laid`).
+-- The second number, then the third in the rest (`three-laid`). Rests on Lays.
 use borrow.Author.Needs.{needs}
 use Rattle.schedule.proofs.Lays.{two-laid, three-laid}
 use Rattle.schedule.proofs.writing.put_tail.Statement.{statement}

@@ -1,10 +1,6 @@
--- By the sizes of the parts, in Parts.
-use mathlib.Core.Path.{ap}
-use native.Mathlib.Omega.{arith}
+-- By the bytes that each number takes, in BytesNeeded.
 use borrow.Author.Needs.{needs}
-use lib.ListN.{length}
-use Rattle.numbers.proofs.Sizes.{number-size}
-use Rattle.schedule.proofs.Parts.{all-size, tail-of-two, tail-size-three}
+use Rattle.schedule.proofs.BytesNeeded.{size-of-two, size-of-three}
 use Rattle.schedule.proofs.writing.size.Statement.{statement}
 use Rattle.schedule.proofs.writing.size.Tie as tie
 
@@ -18,29 +14,19 @@ number-size-requires-3 : tie.Need-number-size-requires-3
 number-size-requires-3 c κs = search needs
 
 add-result : tie.Need-add-result
-add-result c =
-    let x = c .before .before .before .before .args .numbers in
-    omega (arith, number-size (x .first), number-size (x .second))
+add-result c = search needs
 
 add-result-2 : tie.Need-add-result-2
-add-result-2 c =
-    let x = c .before .before .before .before .args .numbers in
-    omega (arith, number-size (x .first), number-size (x .second), number-size (x .third))
+add-result-2 c = search needs
 
 returns : tie.Need-returns
-returns c =
-    let x = c .before .before .before .before .args .numbers in
-    omega (arith, all-size x, tail-size-three x (c .before .if1 .taken))
+returns c = search (needs, size-of-three)
 
 add-result-3 : tie.Need-add-result-3
-add-result-3 c =
-    let x = c .before .before .before .args .numbers in
-    omega (arith, number-size (x .first), number-size (x .second))
+add-result-3 c = search needs
 
 returns-2 : tie.Need-returns-2
-returns-2 c =
-    let x = c .before .before .before .args .numbers in
-    omega (arith, all-size x, ap length (tail-of-two x (c .if1 .left)))
+returns-2 c = search (needs, size-of-two)
 
 pub size-spec : {M : Type 1} → statement M
 size-spec =

@@ -1,4 +1,4 @@
--- As the numbers of the event.
+-- As the numbers of the event (`event-put`). Rests on Lays.
 use borrow.Author.Needs.{needs}
 use Rattle.schedule.proofs.Lays.{event-put}
 use Rattle.schedule.proofs.writing.write_event.Statement.{statement}

@@ -1,4 +1,4 @@
--- By `sizes_fit`, then as two numbers.
+-- By `sizes_fit`, then as two numbers. The laws are in Lays.
 use borrow.Author.Needs.{needs}
 use Rattle.schedule.proofs.Lays.{header-refused, header-put}
 use Rattle.schedule.proofs.writing.write_header.Statement.{statement}

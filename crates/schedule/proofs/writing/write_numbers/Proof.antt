@@ -1,6 +1,6 @@
--- A start past the output leaves none; else the event writer is lent the rest (`put-in-rest`).
+-- A start past the output leaves none; else the event writer is lent the rest (`put-in-rest`). Rests on Lays.
 use borrow.Author.Needs.{needs}
-use Rattle.schedule.proofs.Parts.{all-some}
+use Rattle.schedule.proofs.BytesNeeded.{all-some}
 use Rattle.schedule.proofs.Lays.{put-past, put-in-rest}
 use Rattle.schedule.proofs.writing.write_numbers.Statement.{statement}
 use Rattle.schedule.proofs.writing.write_numbers.Tie as tie

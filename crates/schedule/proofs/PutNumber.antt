@@ -1,4 +1,4 @@
--- What each turn of `put_number` leaves: the bytes so far, and those to come. Rests on Sizes and Lays.
+-- What each turn of `put_number` leaves: the bytes so far, and those to come. Rests on the numbers' Sizes and on Lays.
 use Prim.Native.Nat.{ℕ, _+_, _/_, _%_, _<_, _≤_, min}
 use mathlib.Core.List.{List, [], _∷_, _++_, append-nil}
 use mathlib.Core.Path.{_≡_, refl, ap, sym, _∙_}

@@ -7,7 +7,7 @@ use lib.ListN.{length, drop, length-drop}
 use Rattle.numbers.specs.declared.NumberRead.{NumberRead}
 use Rattle.numbers.specs.declared.NumberRead.the-variants.{Got, Refused}
 use Rattle.numbers.specs.Numbers.{Read, got, stops, readNumber}
-use Rattle.numbers.specs.Places.{placeIn, numberRead, numberAt}
+use Rattle.numbers.specs.ReadAt.{placeIn, numberRead, numberAt}
 use Rattle.numbers.proofs.Follows.{Takes, number-takes, left-follows}
 
 -- the place of the bytes from a place on
