@@ -73,7 +73,7 @@ abbrev pub deleterWord : Process → ℕ
 deleterWord p = p .0 + 1
 
 -- A node in use is one that was given out: "not below the count" is not in use. What is needed of it beyond this line are the laws of
--- proofs/laws/InUse.
+-- proofs/Laws/InUse.
 unfoldable pub inUse : Memory → Node → Bool
 inUse m n = ltb (n .0) (m .count)
 

@@ -4,7 +4,7 @@ use mathlib.Core.Path.{_≡_, refl, sym, _∙_, ap}
 use mathlib.Core.Logic.{_≢_, _⊎_, inl, inr}
 use mathlib.Core.Bool.{or-true, Bool, true, false, not, _&&_, _||_, false≢true}
 use mathlib.Core.List.{List, [], _∷_, List·Memᴰ, List·Memᴰ·head, List·Memᴰ·tail, List·Memᴰ·cases-cons, List·Memᴰ·not-nil}
-use Prim.Native.Nat.{ℕ, zero, suc, _+_, _-_, _≤_, _<_}
+use Prim.Native.Nat.{ℕ, zero, suc, _+_, _≤_, _<_}
 use native.Mathlib.Omega.{arith}
 use native.Mathlib.Decide.{ℕ-discrete}
 use lib.Dec.{eqb}
@@ -25,7 +25,7 @@ use Rattle.basics.proofs.Tests.{by-test}
 use Rattle.table.proofs.Laws.Fitting.{limits-of, Room, room-fresh, fit-of}
 use Rattle.table.proofs.Laws.InUse.{head-in-use, tail-in-use}
 use Rattle.table.proofs.Laws.Reaching.{Along, origin, further, front}
-use Rattle.table.proofs.Laws.Numbered.{rankIn, followsIn, On, on-node, held-number, held-node, unmarked-plain, rank-inner, rank-head}
+use Rattle.table.proofs.Laws.Numbered.{rankIn, followsIn, unmarked-plain, On, on-node, held-number, held-node, rank-inner, rank-head}
 use Rattle.table.proofs.Laws.Ahead.{Onward, went-onward, goes-onward, walk-onward}
 
 -- ---- a fresh list

@@ -5,7 +5,6 @@ use mathlib.Core.Bool.{Bool, true, false}
 use mathlib.Core.List.{[], _∷_}
 use Prim.Native.Nat.{ℕ, suc, _<_}
 use native.Mathlib.Omega.{arith}
-use lib.Dec.{ltb, eqb}
 use borrow.Author.Tests.{eqb-false, ne-eqb, ltb-true, lt-ltb}
 use Rattle.record.specs.Record.{node, tailNode}
 use Rattle.record.specs.declared.Node.{Node}
