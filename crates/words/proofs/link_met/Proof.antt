@@ -1,13 +1,9 @@
--- The target and the mark are those of the word read. Rests on Accessed.
+-- The target and the mark are those of the word read. Rests on LinksMet.
 use Rattle.table.specs.Words.{linkAt}
-use Rattle.list.proofs.Accessed.{link-is-met, link-leads-out}
+use Rattle.words.proofs.LinksMet.{link-is-met, link-leads-out}
 use borrow.Author.Needs.{needs}
-use Rattle.list.proofs.access.link_met.Statement.{statement}
-use Rattle.list.proofs.access.link_met.Tie as tie
-use Rattle.table.specs.Words.{linkAt}
-use Rattle.list.proofs.Accessed.{link-is-met, link-leads-out}
-use Rattle.table.specs.Words.{linkAt}
-use Rattle.list.specs.Accesses.{linkMet}
+use Rattle.words.proofs.link_met.Statement.{statement}
+use Rattle.words.proofs.link_met.Tie as tie
 
 word-at-requires : tie.Need-word-at-requires
 word-at-requires c κs = search needs

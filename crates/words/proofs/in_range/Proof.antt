@@ -1,8 +1,8 @@
--- The ranges, by the place.
+-- The ranges, by the place. Rests on Ranges.
 use borrow.Author.Needs.{needs}
-use Rattle.list.proofs.InRange.{first-places, middle-places, last-places}
-use Rattle.list.proofs.step.in_range.Statement.{statement}
-use Rattle.list.proofs.step.in_range.Tie as tie
+use Rattle.words.proofs.Ranges.{first-places, middle-places, last-places}
+use Rattle.words.proofs.in_range.Statement.{statement}
+use Rattle.words.proofs.in_range.Tie as tie
 
 returns : tie.Need-returns
 returns c = search (needs, first-places)

@@ -1,40 +1,14 @@
--- The ranges of a record's fields by the place it stands at, and a step of a record that is out of them. Rests on Rows.
-use mathlib.Core.Path.{_≡_, refl, sym, _∙_}
+-- The ranges of a record's fields by the place it stands at: only the first places look at the kind, only the last two at the pending answer. Rests on
+-- the table's Steps.
+use mathlib.Core.Path.{_≡_, refl}
 use mathlib.Core.Bool.{Bool, true, false, not, _&&_, _||_}
-use Prim.Native.Nat.{ℕ, _<_, _≤_}
+use Prim.Native.Nat.{_<_, _≤_}
 use native.Mathlib.Omega.{arith}
 use borrow.Author.Tests.{lt-leb, le-leb, ne-eqb, eqb-true, eqb-false}
 use lib.Dec.{eqb, leb}
 use Rattle.record.specs.Record.{Finds, NoAnswer, Fail}
-use Rattle.record.specs.declared.Process.{Process}
 use Rattle.record.specs.declared.Record.{Record}
-use Rattle.record.specs.declared.Outcome.the-variants.{Refused}
-use Rattle.table.specs.Words.{Memory}
-use Rattle.table.specs.Steps.{inRange, turnIn}
-use Rattle.table.specs.Events.{step}
-use Rattle.words.specs.LentMemory.{sized}
-use Rattle.words.specs.declared.Sizes.{Sizes}
-use Rattle.list.specs.declared.Acted.{Acted}
-use Rattle.list.specs.Acting.{left}
-use Rattle.list.specs.Rows.{answered}
-
-module _ (m : Memory) (sizes : Sizes) (p : Process) (r : Record) where
-  pub out-of-range : inRange r ≡ false → left m (answered sizes r (Refused 8)) ≡ step (sized sizes m) p r
-  unfolding step turnIn
-  out-of-range h = rw h
-
-  pub off-the-table : (a : Acted) → a ≡ answered sizes r (Refused 8) → 19 < r .lost .place → left m a ≡ step (sized sizes m) p r
-  off-the-table a is off = rw is (out-of-range (unfold inRange in rw (lt-leb (r .lost .place) 19 off)))
-
-  -- what a test of the ranges told
-  pub refused-8 : (ranged : Bool) → ranged ≡ inRange r → (a : Acted) → a ≡ answered sizes r (Refused 8) → ranged ≡ false →
-      left m a ≡ step (sized sizes m) p r
-  refused-8 ranged e a is h = rw is (out-of-range (sym e ∙ h))
-
-pub in-range : (r : Record) (ranged : Bool) → ranged ≡ inRange r → ranged ≡ true → inRange r ≡ true
-in-range r ranged e h = sym e ∙ h
-
--- ---- the ranges: only the first places look at the kind, only the last two at the pending answer
+use Rattle.table.specs.Steps.{inRange}
 
 and-true : (b : Bool) → (b && true) ≡ b
 and-true true = refl
