@@ -11,3 +11,4 @@ pub mod Accepted
 pub mod Looked
 pub mod AfterRefusal
 pub mod Written
+pub mod Demand3
