@@ -5,3 +5,4 @@ pub mod Events
 pub mod Chain
 pub mod History
 pub mod Demand3
+pub mod Reached

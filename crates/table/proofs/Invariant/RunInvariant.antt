@@ -485,6 +485,7 @@ module _ (ρ : Played) where
     tail = ρ .quiet .tail;
     rise = λ n o h. ρ .quiet .rises (node n) (on-node m₀ (node n) o) (λ q. h (ap (λ n. n .0) q));
     used = λ n o. ρ .quiet .used (node n) (on-node m₀ (node n) o);
+    small = λ n o. ρ .quiet .small (node n) (on-node m₀ (node n) o);
     signed = λ n o d. elim (marked-or-not m₀ n) [
       | yes z ↦ z
       | no z ↦ absurd (d (ρ .quiet .unsigned (node n) (on-node m₀ (node n) o) (plain-unmarked m₀ n (omega arith))))
