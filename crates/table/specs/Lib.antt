@@ -6,3 +6,4 @@ pub mod Chain
 pub mod Refusal8
 pub mod History
 pub mod Demand3
+pub mod Answers

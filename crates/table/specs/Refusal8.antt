@@ -58,9 +58,9 @@ module _ (m : Memory) (r : Record) where
     pub reached : below (m .addresses) (r .lost .curr) (r .kept .address) ≡ false
 
   -- the fields used: those of the row, "and at the end of a recovering search" own
-  pub data Uses : Field → Type 0 where
-    by-row : {f : Field} → List·Memᴰ f (testsOf r .fields) → Uses f
-    at-the-end : RecoveringSearchEnds → Uses own
+  pub data UsesField : Field → Type 0 where
+    by-row : {f : Field} → List·Memᴰ f (testsOf r .fields) → UsesField f
+    at-the-end : RecoveringSearchEnds → UsesField own
 
   -- why a step is refused with 8
   pub data Broken : Type 0 where
@@ -75,6 +75,6 @@ module _ (m : Memory) (r : Record) where
     none-at-19 : r .lost .place ≡ 19 → r .lost .pending ≡ NoAnswer → Broken
     find-at-0-to-2 : r .lost .place ≤ 2 → r .kept .kind ≡ Finds → Broken
     -- "a node field used by the row, or the target of a link read by the row, is not below the count; or a row using own finds none"
-    field-not-in-use : (f : Field) → Uses f → inUse m (nodeOf r f) ≡ false → Broken
+    field-not-in-use : (f : Field) → UsesField f → inUse m (nodeOf r f) ≡ false → Broken
     target-not-in-use : (f : Field) → testsOf r .reads ≡ some f → inUse m (follows m (nodeOf r f)) ≡ false → Broken
-    own-is-none : Uses own → r .kept .node ≡ noNode → Broken
+    own-is-none : UsesField own → r .kept .node ≡ noNode → Broken

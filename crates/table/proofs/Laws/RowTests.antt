@@ -15,7 +15,7 @@ use Rattle.table.specs.Places.{Field, head, pred, curr, succ, own, nodeO
 use Rattle.table.specs.Places.{p5, p6, p7, p8, p9, p10, p11, p12, p13, p14, p15, p16, p17, p18, p19, off}
 use Rattle.table.specs.Steps.{wordMet, accessOf, usable, allUsable, allUsed, ownUsable}
 use Rattle.table.specs.Chain.{follows}
-use Rattle.table.specs.Refusal8.{RowTests, rowTests, testsOf, RecoveringSearchEnds, Uses, by-row, at-the-end, Broken}
+use Rattle.table.specs.Refusal8.{RowTests, rowTests, testsOf, RecoveringSearchEnds, UsesField, by-row, at-the-end, Broken}
 use Rattle.table.specs.Refusal8.{field-not-in-use}
 use Rattle.table.specs.Refusal8.{target-not-in-use, own-is-none}
 use Rattle.basics.proofs.Tests.{by-test, and-left, and-right}
@@ -119,10 +119,10 @@ module _ (m : Memory) (p : Process) (r : Record) where
     | inr x ↦ inr x
   ]
 
-  own-broken : Uses m r own → usable (inUse m) r own ≡ false → Broken m r
+  own-broken : UsesField m r own → usable (inUse m) r own ≡ false → Broken m r
   own-broken u e = elim (own-none-or-unused e) [ inl q ↦ own-is-none u q | inr q ↦ field-not-in-use own u q ]
 
-  field-broken : (f : Field) → Uses m r f → usable (inUse m) r f ≡ false → Broken m r
+  field-broken : (f : Field) → UsesField m r f → usable (inUse m) r f ≡ false → Broken m r
   field-broken head u e = absurd (false≢true (sym e))
   field-broken pred u e = field-not-in-use pred u e
   field-broken curr u e = field-not-in-use curr u e
@@ -216,22 +216,22 @@ module _ (m : Memory) (p : Process) (r : Record) where
     nodes : nodesUsable (testsOf r) ≡ true
     nodes = sym (same-tests (placeOf (r .lost .place))) ∙ access
 
-    used-usable : (f : Field) → Uses m r f → usable (inUse m) r f ≡ true
+    used-usable : (f : Field) → UsesField m r f → usable (inUse m) r f ≡ true
     used-usable f (by-row i) = each-usable (testsOf r .fields) (and-left (allUsable (inUse m) r (testsOf r .fields)) _ (and-left _ _ nodes)) f i
     used-usable f (at-the-end x) = rw (ended x) at
         (and-right (allUsable (inUse m) r (testsOf r .fields) && targetUsed (testsOf r .reads)) _ nodes)
 
-    field-in-use : (f : Field) → Uses m r f → usable (inUse m) r f ≡ true → inUse m (nodeOf r f) ≡ true
+    field-in-use : (f : Field) → UsesField m r f → usable (inUse m) r f ≡ true → inUse m (nodeOf r f) ≡ true
     field-in-use head (by-row i) e = absurd (false≢true (sym (head-is-no-field (placeOf (r .lost .place))) ∙ names-head (testsOf r .fields) i))
     field-in-use pred u e = e
     field-in-use curr u e = e
     field-in-use succ u e = e
     field-in-use own u e = and-right (not (eqb (r .kept .node .0) (noNode .0))) (inUse m (r .kept .node)) e
 
-    pub used-in-use : (f : Field) → Uses m r f → inUse m (nodeOf r f) ≡ true
+    pub used-in-use : (f : Field) → UsesField m r f → inUse m (nodeOf r f) ≡ true
     used-in-use f u = field-in-use f u (used-usable f u)
 
-    pub own-is-some : Uses m r own → r .kept .node ≢ noNode
+    pub own-is-some : UsesField m r own → r .kept .node ≢ noNode
     own-is-some u q = false≢true (rw q at (and-left (not (eqb (r .kept .node .0) (noNode .0))) (inUse m (r .kept .node)) (used-usable own u)))
 
     pub target-in-use : (f : Field) → testsOf r .reads ≡ some f → inUse m (follows m (nodeOf r f)) ≡ true
