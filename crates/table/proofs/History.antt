@@ -1,4 +1,5 @@
 pub mod Reads
+pub mod Answers
 pub mod Start
 pub mod Struck
 pub mod Demand3

@@ -3,6 +3,8 @@ pub mod Places
 pub mod Steps
 pub mod Events
 pub mod Chain
+pub mod Refusal8
 pub mod History
 pub mod Demand3
 pub mod Reached
+pub mod Answers

@@ -49,17 +49,17 @@ place-numbered n h = numbered 0 places refl n (omega arith) ∙ zero-add n
 
 -- ---- the numbers of a record in range
 
-module _ (R : Record) (ok : inRange R ≡ true) where
-  -- those after the place's
-  abbrev conditions : List Bool
-  conditions =
-      leb (R .kept .kind) 2 ∷ leb (R .lost .pending) 3 ∷ leb (R .kept .result) 2
-      ∷ not (eqb (R .lost .place) 18 && (eqb (R .lost .pending) NoAnswer || eqb (R .lost .pending) Fail))
-      ∷ not (eqb (R .lost .place) 19 && eqb (R .lost .pending) NoAnswer) ∷ not (leb (R .lost .place) 2 && eqb (R .kept .kind) Finds) ∷ []
+-- the tests on them after the place's, in 01's order
+abbrev pub conditions : Record → List Bool
+conditions R =
+    leb (R .kept .kind) 2 ∷ leb (R .lost .pending) 3 ∷ leb (R .kept .result) 2
+    ∷ not (eqb (R .lost .place) 18 && (eqb (R .lost .pending) NoAnswer || eqb (R .lost .pending) Fail))
+    ∷ not (eqb (R .lost .place) 19 && eqb (R .lost .pending) NoAnswer) ∷ not (leb (R .lost .place) 2 && eqb (R .kept .kind) Finds) ∷ []
 
-  condition : (n : ℕ) → getD (leb (R .lost .place) 19 ∷ conditions) n true ≡ true
+module _ (R : Record) (ok : inRange R ≡ true) where
+  pub condition : (n : ℕ) → getD (leb (R .lost .place) 19 ∷ conditions R) n true ≡ true
   unfolding inRange
-  condition = each-true (leb (R .lost .place) 19) conditions ok
+  condition = each-true (leb (R .lost .place) 19) (conditions R) ok
 
   pub result-in-range : R .kept .result ≤ 2
   result-in-range = leb-true (R .kept .result) 2 (condition 3)
