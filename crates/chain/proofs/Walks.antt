@@ -1,7 +1,7 @@
 -- Laws of the walk along the chain: what lies ahead of a node decides how it goes on, and it never runs out of steps. Rests on the table's `ahead`.
 use mathlib.Core.Path.{_≡_, refl, sym, _∙_, ap, subst}
 use mathlib.Core.Logic.{_≢_}
-use mathlib.Core.Bool.{Bool, true, false}
+use mathlib.Core.Bool.{Bool, true, false, cond}
 use mathlib.Core.List.{List, [], _∷_, map}
 use Prim.Native.Nat.{ℕ, zero, suc, _≤_, _<_, _+_}
 use native.Mathlib.Omega.{arith}
@@ -44,13 +44,22 @@ module _ (target : Node) (tail used above : Bool) where
 
 pub ruleset judged = (says-tail, says-unused, says-not-above, says-next, lt-ltb, le-ltb, eq-eqb, ne-eqb)
 
+-- a target that is not in use may be asked where another node sorts
+said-of-used : (target other : Node) (tail used : Bool) (addresses : List ℕ) (at : ℕ) →
+    aheadOf target tail used (ltb at (rank addresses (cond used target other))) ≡ aheadOf target tail used (ltb at (rank addresses target))
+said-of-used target other true used addresses at = refl
+said-of-used target other false true addresses at = refl
+said-of-used target other false false addresses at = refl
+
 -- the words that the code read are known by equations
-pub onward-told : (addresses links : List ℕ) (sizes : Sizes) (from target : Node) (word at to : ℕ) (used : Bool) (x : Ahead)
+pub onward-told : (addresses links : List ℕ) (sizes : Sizes) (from target asked : Node) (word at to : ℕ) (used : Bool) (x : Ahead)
     → x ≡ aheadIn (aheadOf target (eqb (target .0) (tailNode .0)) used (ltb at to)) → target ≡ targetOf word → word ≡ getD links (from .0) 0
-    → ((m : Memory) → used ≡ inUse (sized sizes (links≔ links m)) target) → at ≡ rank addresses from → to ≡ rank addresses target
+    → ((m : Memory) → used ≡ inUse (sized sizes (links≔ links m)) target) → at ≡ rank addresses from
+    → to ≡ rank addresses asked → asked ≡ cond used target headNode
     → (m : Memory) → x ≡ aheadIn (ahead (sized sizes (links≔ links (addresses≔ addresses m))) from)
 unfolding ahead linkAt
-onward-told addresses links sizes from target word at to used x told is e u h k m = told ∙ rw (u (addresses≔ addresses m), h, k, is, e)
+onward-told addresses links sizes from target asked word at to used x told is e u h k a m =
+    told ∙ rw (k, a, said-of-used target headNode (eqb (target .0) (tailNode .0)) used addresses at, u (addresses≔ addresses m), h, is, e)
 
 -- ---- what lies ahead, by cases
 

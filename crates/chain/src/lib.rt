@@ -11,6 +11,7 @@ use record::Address;
 use record::HEAD;
 use record::Node;
 use record::TAIL;
+use record::either;
 use words::Sizes;
 
 // What the walk along the chain meets after a node: a node to go on to, or why it stops.
@@ -50,16 +51,17 @@ fn judge(target: Node, used: bool, from: u64, to: u64) -> Ahead
     Ahead::NotInUse
 }
 
-// What the walk meets after a node.
+// What the walk meets after a node. The target's address is looked at only where the target is in use.
 pub fn onward(addresses: &[u32], links: &[u32], sizes: Sizes, from: Node) -> Ahead
     ensures { λ r. ⌜ ((m : Memory) → r ≡ aheadIn (ahead (sized sizes (links≔ (now (links .entry)) (addresses≔ (now (addresses .entry)) m))) from)) ⌝ }
 {
     let target = words::target_of(words::word_at(links, from));
+    let used = words::in_use(links, sizes, target);
     judge(
         target,
-        words::in_use(links, sizes, target),
+        used,
         words::rank_of(addresses, from),
-        words::rank_of(addresses, target),
+        words::rank_of(addresses, either(used, target, HEAD)),
     )
 }
 

@@ -19,6 +19,9 @@ rank-of-requires c κs = search needs
 rank-of-requires-2 : tie.Need-rank-of-requires-2
 rank-of-requires-2 c κs = search needs
 
+either-requires : tie.Need-either-requires
+either-requires c κs = search needs
+
 judge-requires : tie.Need-judge-requires
 judge-requires c κs = search needs
 
@@ -28,4 +31,4 @@ returns c m = search (needs, onward-told)
 pub onward-spec : {M : Type 1} → statement M
 onward-spec =
     tie.close
-    (tie.spec word-at-requires target-of-requires in-use-requires rank-of-requires rank-of-requires-2 judge-requires returns)
+    (tie.spec word-at-requires target-of-requires in-use-requires rank-of-requires either-requires rank-of-requires-2 judge-requires returns)

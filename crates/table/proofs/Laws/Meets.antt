@@ -1,11 +1,13 @@
--- What every outcome of an event meets, if each of its branches does: one law for each definition that branches. Rests on Events.
+-- What every outcome of an event meets, if each of its branches does: one law for each definition that branches. Rests on Events and, for
+-- the limits of sizes, on Fitting.
 use mathlib.Core.Path.{_≡_, refl, sym, ap, _∙_}
 use mathlib.Core.Bool.{Bool, true, false, cond, false≢true}
 use Prim.Native.Nat.{ℕ, _≤_, _<_}
 use lib.Dec.{ltb, eqb}
 use lib.ListN.{length}
 use lib.Seq.{set-getD}
-use borrow.Author.Tests.{le-leb, lt-leb, le-ltb}
+use native.Mathlib.Omega.{arith}
+use borrow.Author.Tests.{le-leb, lt-leb, le-ltb, ltb-true}
 use Rattle.record.specs.Record.{freshRecord, requested, wentDown, restarted, noNode, Inserts, Deletes, Finds}
 use Rattle.record.specs.Event.{refusalIn}
 use Rattle.record.specs.declared.Process.{Process}
@@ -20,6 +22,7 @@ use Rattle.table.specs.Steps.{turnIn}
 use Rattle.table.specs.Events.{Left, leaving, refused, step, does, statusNeeded, tablesFit, act, State, recordIn, Leaves, leavesIn}
 use Rattle.table.specs.Events.{stateOf, stored, event}
 use Rattle.basics.proofs.Tests.{if, if-le, by-test}
+use Rattle.table.proofs.Laws.Fitting.{limits}
 
 -- an action on the record alone: the memory stays, and it is accepted
 pub data Alone (r : Record) : Action → Record → Type 0 where
@@ -101,11 +104,21 @@ unfolding stored recordIn
 refused-stored σ p n = rw (set-getD (σ .row) (p .0) freshRecord)
 
 -- refused for its tables or its process: with whatever record
-pub refused-anywhere : (m : Memory) (p : Process) (r : Record) (x : Action) → (tablesFit m ≡ true → ltb (p .0) (m .processes) ≡ true → ⊥)
+abbrev pub Never : Memory → Process → Type 0
+Never m p = tablesFit m ≡ true → ltb (p .0) (m .processes) ≡ true → ⊥
+
+pub refused-anywhere : (m : Memory) (p : Process) (r : Record) (x : Action) → Never m p
     → act m p r x ≡ leaving m r (cond (tablesFit m) (Refused 1) (Refused 7))
 refused-anywhere m p r x never =
     act-judged (λ d. d ≡ leaving m r (cond (tablesFit m) (Refused 1) (Refused 7))) m p r x
     (λ unfit. rw unfit refl) (λ fit beyond. rw fit refl) (λ fit there other. absurd (never fit there)) (λ fit there ready. absurd (never fit there))
+
+-- so refused, worked on any record of a row: it is stored back as it was
+refused-in-row : (σ : State) (p q : Process) (x : Action) → Never (σ .memory) p
+    → stored σ q (act (σ .memory) p (recordIn σ q) x) ≡ leavesIn σ (cond (tablesFit (σ .memory)) (Refused 1) (Refused 7))
+refused-in-row σ p q x never =
+    ap (stored σ q) (refused-anywhere (σ .memory) p (recordIn σ q) x never)
+    ∙ by-test (tablesFit (σ .memory)) (λ fit. rw fit (refused-stored σ q 1)) (λ unfit. rw unfit (refused-stored σ q 7))
 
 -- ---- an event in a row of records
 
@@ -128,14 +141,13 @@ module _ (σ : State) (e : Event) where
 
   -- of a process that is not there, whatever record it is worked on: nothing is stored
   module _ (long : σ .memory .processes ≤ length (σ .row)) (beyond : σ .memory .processes ≤ e .process .0) (r : Record) where
-    never : tablesFit (σ .memory) ≡ true → ltb (e .process .0) (σ .memory .processes) ≡ true → ⊥
+    never : Never (σ .memory) (e .process)
     never fit there = false≢true (sym (le-ltb (e .process .0) (σ .memory .processes) beyond) ∙ there)
 
     pub event-of-nobody : event σ e ≡ leavesIn σ (act (σ .memory) (e .process) r (e .action) .outcome)
     event-of-nobody =
         event-in-row long
-        ∙ ap (stored σ (e .process)) (refused-anywhere (σ .memory) (e .process) (recordIn σ (e .process)) (e .action) never)
-        ∙ by-test (tablesFit (σ .memory)) (λ fit. rw fit (refused-stored σ (e .process) 1)) (λ unfit. rw unfit (refused-stored σ (e .process) 7))
+        ∙ refused-in-row σ (e .process) (e .process) (e .action) never
         ∙ ap (λ (d : Left). leavesIn σ (d .outcome)) (sym (refused-anywhere (σ .memory) (e .process) r (e .action) never))
 
     -- the same, with the memory that is left of the one worked on
@@ -145,3 +157,27 @@ module _ (σ : State) (e : Event) where
         event-of-nobody
         ∙ ap (λ (m : Memory). leavesIn (stateOf m (σ .row)) (d .outcome))
         (sym (ap (λ (d : Left). d .memory) (refused-anywhere (σ .memory) (e .process) r (e .action) never)))
+
+  -- worked on the record of a slot in a row of 64, where a process that is there has its own: 64 is the limit for sizes that fit
+  module _ (slot : Process) (long : 64 ≤ length (σ .row))
+      (own : tablesFit (σ .memory) ≡ true → e .process .0 < σ .memory .processes → slot ≡ e .process) where
+    abbrev atSlot : Process → Leaves
+    atSlot q = stored σ q (act (σ .memory) (e .process) (recordIn σ q) (e .action))
+
+    same-slot : Never (σ .memory) (e .process) → atSlot (e .process) ≡ atSlot slot
+    same-slot never = refused-in-row σ (e .process) (e .process) (e .action) never ∙ sym (refused-in-row σ (e .process) slot (e .action) never)
+
+    slot-where-fit : tablesFit (σ .memory) ≡ true → event σ e ≡ atSlot slot
+    slot-where-fit fit =
+        event-in-row (omega (arith, limits (σ .memory) fit .few-processes))
+        ∙ by-test (ltb (e .process .0) (σ .memory .processes))
+        (λ there. ap atSlot (sym (own fit (ltb-true (e .process .0) (σ .memory .processes) there))))
+        (λ past. same-slot (λ _ there. false≢true (sym past ∙ there)))
+
+    slot-where-unfit : tablesFit (σ .memory) ≡ false → event σ e ≡ atSlot slot
+    slot-where-unfit unfit =
+        let never : Never (σ .memory) (e .process) = λ fit there. false≢true (sym unfit ∙ fit) in
+        event-meets (λ l. l ≡ atSlot slot) (λ _. same-slot never) (sym (rw unfit at (refused-in-row σ (e .process) slot (e .action) never)))
+
+    pub event-by-slot : event σ e ≡ atSlot slot
+    event-by-slot = by-test (tablesFit (σ .memory)) slot-where-fit slot-where-unfit
