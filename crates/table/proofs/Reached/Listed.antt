@@ -1,13 +1,13 @@
 -- The chain of an orderly memory: the walk from head meets exactly the nodes between head and tail, each once, rising, and stops at tail. Rests on
 -- the laws Ahead and Reaching, and on Effects.
 use mathlib.Core.List.{map, List·Memᴰ, List·Memᴰ·head, List·Memᴰ·tail, List·Memᴰ·cases-cons, List·Memᴰ·not-nil}
-use Rattle.table.proofs.Common.{_≡_, refl, sym, _∙_, ap, _≢_, inl, inr, _↔_, List, [], _∷_, ℕ, zero, suc, _+_, _≤_, _<_, arith, ℕ-discrete}
+use Rattle.table.proofs.Common.{_≡_, refl, sym, _∙_, ap, _≢_, inl, inr, List, [], _∷_, ℕ, zero, suc, _+_, _≤_, _<_, arith, ℕ-discrete}
 use Rattle.table.proofs.Common.{node, address, Node, Address, Memory, aboveAll, rank}
 use Rattle.table.specs.Words.{addressAt, rankOf}
-use Rattle.table.specs.Chain.{follows, Ahead, onto, tailAhead, notInUse, notAbove, ahead, walk, chain, chainAddresses}
+use Rattle.table.specs.Chain.{tailAhead, ahead, walk, chain, chainAddresses}
 use Rattle.table.specs.Reached.{Between, RisesAbove, EachOnce, lastOf, ChainListed}
 use Rattle.table.proofs.Laws.Reaching.{Along, origin, further, front}
-use Rattle.table.proofs.Laws.Numbered.{addressIn, rankIn, followsIn, On, on-number, on-node, rank-inner, rank-head}
+use Rattle.table.proofs.Laws.Numbered.{rankIn, followsIn, On, on-number, on-node, rank-inner, rank-head}
 use Rattle.table.proofs.Laws.Ahead.{goes-onward, walk-onward, meets-tail, walk-ended}
 use Rattle.table.proofs.Invariant.Effects.{Orderly}
 
