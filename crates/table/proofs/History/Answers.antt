@@ -3,7 +3,7 @@
 use mathlib.Core.Path.{_≡_, refl, sym, _∙_, ap, subst}
 use mathlib.Core.Logic.{_≢_, _⊎_, inl, inr}
 use mathlib.Core.Bool.{false}
-use mathlib.Core.Option.{none, some}
+use mathlib.Core.Option.{some}
 use Prim.Native.Nat.{ℕ, suc, _<_}
 use native.Mathlib.Omega.{arith}
 use native.Mathlib.Decide.{ℕ-discrete}
@@ -21,8 +21,8 @@ use Rattle.table.proofs.Laws.Numbered.{rankIn, ownIn, askedIn, held-nod
 use Rattle.table.proofs.Invariant.Moments.{later}
 use Rattle.table.proofs.Invariant.Known.{InsertKnown, InsertSays, insert-known, insert-says}
 use Rattle.table.proofs.Invariant.Played.{Played, memoryAt, recordThen, processAt, kindAt, askedAt, IsOperation, answerTo}
-use Rattle.table.proofs.Invariant.RunInvariant.{Busy, invariant}
-use Rattle.table.proofs.Invariant.OpenOperations.{course, AnsweredAt, answered, value-true}
+use Rattle.table.proofs.Invariant.RunInvariant.{Busy}
+use Rattle.table.proofs.Invariant.OpenOperations.{course, busy-of, AnsweredAt, answered, value-true}
 use Rattle.table.proofs.Invariant.HeldByPlace.{actorNode, PutBy, Changes, keeps-all, inserted, struck, changes}
 use Rattle.table.proofs.Invariant.Winners.{Inserted, inserted-at}
 use Rattle.table.proofs.Invariant.Strikes.{StrikeOf, strike-of}
@@ -34,22 +34,10 @@ use Rattle.table.proofs.History.Reads.{operation-is, operationFor, asks
 module _ (ρ : Played) where
   -- a current operation is what its process works on
   pub current-busy : (T : ℕ) (p : Process) (r : ℕ) → Current (ρ .start) (ρ .events) T p r → Busy ρ T (p .0) r
-  current-busy T p r c = elim (invariant ρ T .process (p .0)) [
-    | inl x ↦ absurd (x .done r is (c .before) by unanswered)
-    | inr w ↦ subst (λ s. Busy ρ T (p .0) s) (sym (w .busy .only r is (c .before) by unanswered)) (w .busy)
-  ]
-    where
-      z : IsOperation ρ r × (record { process = p; kind = c .kind; address = c .address; answer = none } ≡ operationFor (ρ .events r) (answerTo ρ T r))
-      z = operation-is ρ T r _ (c .asked)
-
-      is : IsOperation ρ r
-      is = z .0
-
-      by : processAt ρ r ≡ p .0
-      by = sym (ap (λ o. o .process .0) (z .1))
-
-      unanswered : answerTo ρ T r ≡ none
-      unanswered = sym (ap (λ o. o .answer) (z .1))
+  current-busy T p r c =
+      let z = operation-is ρ T r _ (c .asked) in
+      let by : processAt ρ r ≡ p .0 = sym (ap (λ o. o .process .0) (z .1)) in
+      subst (λ q. Busy ρ T q r) by (busy-of ρ T r (z .0) (c .before) (sym (ap (λ o. o .answer) (z .1))))
 
 -- ---- what an answer means
 
