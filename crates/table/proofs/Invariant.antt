@@ -19,4 +19,5 @@ pub mod HeldChanges
 pub mod HeldByPlace
 pub mod Deleters
 pub mod Winners
+pub mod Strikes
 pub mod RunFacts

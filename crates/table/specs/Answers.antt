@@ -11,7 +11,7 @@ use Rattle.record.specs.declared.Address.{Address}
 use Rattle.record.specs.declared.Event.{Event}
 use Rattle.table.specs.Chain.{HeldBy, Held}
 use Rattle.table.specs.Events.{State, recordIn}
-use Rattle.table.specs.History.{Kind, insert, delete, find, Slot}
+use Rattle.table.specs.History.{Kind, insert, delete, find, Answer, Operation, Slot}
 use Rattle.table.specs.Demand3.{at}
 
 -- a moment after event r and not after event t
@@ -67,6 +67,12 @@ module _ (σ₀ : State) (e : ℕ → Event) (r t : ℕ) (p : Process) (a : Addr
   Means insert v = Answers v CameToBeHeld WasHeld
   Means delete v = Answers v CeasedToBeHeld WasNotHeld
   Means find v = Answers v WasHeld WasNotHeld
+
+-- the operation o, which event r requested: the first T events answer it with v, after its request, and v means what it should
+pub record AnswerMeans (σ₀ : State) (e : ℕ → Event) (T r : ℕ) (o : Operation) (v : Answer) : Type 0 where
+  pub after : r < v .time
+  pub within : v .time < T
+  pub means : Means σ₀ e r (v .time) (o .process) (o .address) (o .kind) (v .value)
 
 -- ---- in an order
 
