@@ -8,3 +8,4 @@ pub mod Accesses
 pub mod Ranges
 pub mod Events
 pub mod Sizes
+pub mod Lists

@@ -3,3 +3,4 @@ pub mod Replay
 pub mod Ordered
 pub mod Teeth
 pub mod Supplied
+pub mod Joined

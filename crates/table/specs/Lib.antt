@@ -5,4 +5,5 @@ pub mod Events
 pub mod Chain
 pub mod History
 pub mod Demand3
+pub mod Joined
 pub mod Reached
