@@ -10,3 +10,4 @@ pub mod Refusal8
 pub mod Ranges
 pub mod Events
 pub mod Sizes
+pub mod Lists

@@ -5,3 +5,4 @@ pub mod Teeth
 pub mod Before
 pub mod Needed
 pub mod Supplied
+pub mod Joined

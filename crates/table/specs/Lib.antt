@@ -6,5 +6,6 @@ pub mod Chain
 pub mod Refusal8
 pub mod History
 pub mod Demand3
+pub mod Joined
 pub mod Reached
 pub mod Answers

@@ -156,7 +156,7 @@ module _ (ρ : Played) where
   -- ---- what an event leaves
 
   module _ (t : ℕ) {d : Leaves} (left : event (S t) (e t) ≡ d) where
-    outcome-is : outcomeAt ρ t ≡ d .outcome
+    pub outcome-is : outcomeAt ρ t ≡ d .outcome
     unfolding out
     outcome-is = ap (λ z. z .outcome) left
 

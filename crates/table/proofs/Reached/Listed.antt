@@ -1,11 +1,12 @@
 -- The chain of an orderly memory: the walk from head meets exactly the nodes between head and tail, each once, rising, and stops at tail. Rests on
 -- the laws Ahead and Reaching, and on Effects.
 use mathlib.Core.List.{map, List·Memᴰ, List·Memᴰ·head, List·Memᴰ·tail, List·Memᴰ·cases-cons, List·Memᴰ·not-nil}
-use Rattle.table.proofs.Common.{_≡_, refl, sym, _∙_, ap, _≢_, inl, inr, List, [], _∷_, ℕ, zero, suc, _+_, _≤_, _<_, arith, ℕ-discrete}
+use Rattle.table.proofs.Common.{_≡_, refl, sym, ap, _≢_, inl, inr, List, [], _∷_, ℕ, zero, suc, _+_, _≤_, _<_, arith, ℕ-discrete}
 use Rattle.table.proofs.Common.{node, address, Node, Address, Memory, aboveAll, rank}
 use Rattle.table.specs.Words.{addressAt, rankOf}
 use Rattle.table.specs.Chain.{tailAhead, ahead, walk, chain, chainAddresses}
 use Rattle.table.specs.Reached.{Between, RisesAbove, EachOnce, lastOf, ChainListed}
+use Rattle.table.proofs.Laws.Lists.{mapped-from, mapped}
 use Rattle.table.proofs.Laws.Reaching.{Along, origin, further, front}
 use Rattle.table.proofs.Laws.Numbered.{rankIn, followsIn, On, on-number, on-node, rank-inner, rank-head}
 use Rattle.table.proofs.Laws.Ahead.{goes-onward, walk-onward, meets-tail, walk-ended}
@@ -26,20 +27,8 @@ module _ {A : Type 0} (height : A → ℕ) where
   rising-once from [] r = tt
   rising-once from (x ∷ l) r = ((λ i. absurd (omega (arith, above (height x) l (r .1) i))), rising-once (height x) l (r .1))
 
--- ---- lists of names
-
+-- their names rise with them
 module _ {A B : Type 0} (f : A → B) where
-  named-from : {b : B} (l : List A) → List·Memᴰ b (map f l) → (a : A) × List·Memᴰ a l × (f a ≡ b)
-  named-from [] i = absurd (List·Memᴰ·not-nil i)
-  named-from (x ∷ l) i = elim (List·Memᴰ·cases-cons i) [
-    | inl q ↦ (x, List·Memᴰ·head refl, sym q)
-    | inr j ↦ let z = named-from l j in (z .0, List·Memᴰ·tail (z .1), z .2)
-  ]
-
-  names : {a : A} {b : B} (l : List A) → List·Memᴰ a l → f a ≡ b → List·Memᴰ b (map f l)
-  names [] i q = absurd (List·Memᴰ·not-nil i)
-  names (x ∷ l) i q = elim (List·Memᴰ·cases-cons i) [ inl e ↦ List·Memᴰ·head (sym q ∙ ap f e) | inr j ↦ List·Memᴰ·tail (names l j q) ]
-
   names-rise : (height : A → ℕ) (height′ : B → ℕ) (from : ℕ) (l : List A) → ((a : A) → List·Memᴰ a l → height′ (f a) ≡ height a)
       → RisesAbove height from l → RisesAbove height′ from (map f l)
   names-rise height height′ from [] same r = tt
@@ -121,8 +110,8 @@ module _ {m : Memory} (i : Orderly m) where
     stops = z .stops;
     ends = on-node m (node 1) (z .ends);
     named = λ a. (
-      (λ j. let x = named-from nameOf (chain m) j in (x .0, z .only (x .0) (x .1), x .2)),
-      (λ x. names nameOf (chain m) (met (x .0) (x .1)) (x .2)),
+      (λ j. let x = mapped-from nameOf (chain m) j in (x .0, z .only (x .0) (x .1), x .2)),
+      (λ x. mapped nameOf (chain m) (met (x .0) (x .1)) (x .2)),
     );
     addresses-rising = names-rise nameOf (rank (m .addresses)) rankOf _ (chain m) ranked (z .rises);
   }
