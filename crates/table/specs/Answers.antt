@@ -1,5 +1,5 @@
--- What an answer means, for those who cite it: moments between an operation's request and its answer at which its address was held, was not held, came
--- to be held or ceased to be. And when one operation stands before another in an order. Rests on Chain, Events, History and Demand3.
+-- What an answer means, for those who cite it: moments between an operation's request and its answer at which its address was held, was not held,
+-- came to be held or ceased to be. And when one operation stands before another in an order. Rests on Chain, Events, History and Demand3.
 use mathlib.Core.Path.{_≡_}
 use mathlib.Core.Logic.{_⊎_}
 use mathlib.Core.List.{List, _∷_, _++_, List·Memᴰ}

@@ -121,7 +121,7 @@ module _ (σ₀ : State) (e : ℕ → Event) where
   abbrev pub Marks : ℕ → Node → Type 0
   Marks t n = (isMarked (linkAt (at t .memory) n) ≡ false) × Struck (at (suc t) .memory) n
 
-  -- such a release, requested before event t and answered after it
+  -- a release of n answered true, requested before event t and answered after it
   pub record ReleasedAround (T t : ℕ) (n : Node) (r : ℕ) : Type 0 where
     pub release : ReleasedBy T n r
     pub before : r < t

@@ -8,8 +8,8 @@ use Prim.Native.Nat.{ℕ, _≤_, _<_}
 use Rattle.record.specs.Record.{Finds, noNode, NoAnswer, Fail}
 use Rattle.record.specs.declared.Record.{Record}
 use Rattle.table.specs.Words.{Memory, linkAt, isMarked, inUse, below}
-use Rattle.table.specs.Places.{Field, head, pred, curr, succ, own, nodeOf, Place, placeOf, p0, p1, p2, p3, p4, p5, p6, p7, p8, p9, p10, p11, p12}
-use Rattle.table.specs.Places.{p13, p14, p15, p16, p17, p18, p19, off}
+use Rattle.table.specs.Places.{Field, head, pred, curr, succ, own, nodeOf, Place, placeOf, p0, p1, p2, p3, p4, p5, p6, p7, p8, p9, p10, p11}
+use Rattle.table.specs.Places.{p12, p13, p14, p15, p16, p17, p18, p19, off}
 use Rattle.table.specs.Chain.{follows}
 
 -- what a row tests: the node fields that it uses, the node whose link it reads, and whether a search can end in it

@@ -1,5 +1,5 @@
--- What the struck sentence shuts out: a second release answered true of a node, and, where no operation is current, a struck node without one. So where
--- every process is idle at the end, each node marked in the run has exactly one release answered true. Rests on Struck and Answers.
+-- What the struck sentence shuts out: a second release answered true of a node, and, where no operation is current, a struck node without one. So
+-- where every process is idle at the end, each node marked in the run has exactly one release answered true. Rests on Struck and Answers.
 use mathlib.Core.Path.{_≡_, sym, subst}
 use Prim.Native.Nat.{ℕ, _<_}
 use native.Mathlib.Omega.{arith}
@@ -59,7 +59,7 @@ module _ (ρ : Played) where
       by d (alone Q b z) q = b .there
 
   -- an idle process has no current operation
-  idle-has-none : (T : ℕ) → ((p : Process) → p .0 < memoryAt ρ T .processes → recordIn (stateAt ρ T) p .kept .status ≡ Idle)
+  pub idle-has-none : (T : ℕ) → ((p : Process) → p .0 < memoryAt ρ T .processes → recordIn (stateAt ρ T) p .kept .status ≡ Idle)
       → (p : Process) (r : ℕ) → Current (ρ .start) (ρ .events) T p r → ⊥
   idle-has-none T idle p r c = let b = current-busy ρ T p r c in status-of ρ T (p .0) r b (idle p (omega (
     arith,

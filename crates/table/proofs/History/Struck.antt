@@ -14,7 +14,8 @@ use Rattle.table.specs.Words.{Memory, linkAt, isMarked}
 use Rattle.table.specs.Events.{State}
 use Rattle.table.specs.Chain.{Struck}
 use Rattle.table.specs.History.{Kind, delete, Answer, Operation}
-use Rattle.table.specs.Demand3.{at, operation, Current, CurrentRelease, ReleasedBy, Marks, ReleasedAround, Fate, released, deleter-current, marker-current, StruckOnce}
+use Rattle.table.specs.Demand3.{at, operation, Current, CurrentRelease, ReleasedBy, Marks, ReleasedAround, Fate, released}
+use Rattle.table.specs.Demand3.{deleter-current, marker-current, StruckOnce}
 use Rattle.basics.proofs.Tests.{not-true-false}
 use Rattle.table.proofs.Laws.Numbered.{linkIn, deleterIn, ownIn, struck-marked, unmarked-plain, plain-unmarked}
 use Rattle.table.proofs.Invariant.Moments.{begins-between}
@@ -55,8 +56,8 @@ module _ (ρ : Played) where
   current-release T n p r d node-is =
       record { current = current T p r (d .busy); deletes = asks-delete (ρ .events r .action) (d .kind); node = λ i. record { 0 = node-is i } }
 
-  abbrev answered-true : (T s n p r : ℕ) (a : Answer) → Deleting ρ s p r → answerTo ρ T r ≡ some a → a .value ≡ True → ownIn (recordThen ρ (a .time) p) ≡ n
-      → ReleasedBy (ρ .start) (ρ .events) T (node n) r
+  abbrev answered-true : (T s n p r : ℕ) (a : Answer) → Deleting ρ s p r → answerTo ρ T r ≡ some a → a .value ≡ True
+      → ownIn (recordThen ρ (a .time) p) ≡ n → ReleasedBy (ρ .start) (ρ .events) T (node n) r
   answered-true T s n p r a d h v node-is = record {
     process = process p;
     address = address (addressAsked (ρ .events r .action));

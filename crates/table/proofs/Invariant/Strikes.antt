@@ -1,5 +1,5 @@
--- A node is struck at most once in a run, by a delete that has it in its record; and a delete answered true was requested before the strike of its node
--- and answered after it. Rests on Winners.
+-- A node is struck at most once in a run, by a delete that has it in its record; and a delete answered true was requested before the strike of its
+-- node and answered after it. Rests on Winners.
 use Rattle.table.proofs.Common.{_≡_, ℕ, suc, _≤_, _<_, arith, decLt, Memory, Answer}
 use Rattle.table.proofs.Laws.Numbered.{Used, askedIn, Marked, Plain}
 use Rattle.table.proofs.Invariant.Moments.{marked-later, later, rank-held, rankNow}

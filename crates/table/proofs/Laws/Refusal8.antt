@@ -1,5 +1,5 @@
--- Refusal 8, row by row: a step is refused with it exactly for the causes of specs/Refusal8, and an event exactly where it is such a step of a running
--- process that is there. Rests on RowTests, Ranges and Meets.
+-- Refusal 8, row by row: a step is refused with it exactly for the causes of specs/Refusal8, and an event exactly where it is such a step of a
+-- running process that is there. Rests on RowTests, Ranges and Meets.
 use mathlib.Core.Path.{_≡_, refl, sym, _∙_, ap}
 use mathlib.Core.Logic.{_≢_, _⊎_, inl, inr, _↔_}
 use mathlib.Core.Bool.{Bool, true, false, not, _&&_, _||_, false≢true}

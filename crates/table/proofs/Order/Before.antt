@@ -1,5 +1,5 @@
--- An operation answered before another is requested stands before it in every order, and not after it. So a find requested after an insert was answered true,
--- where nothing is deleted, is not answered false: such a history has no order. Rests on History.
+-- An operation answered before another is requested stands before it in every order, and not after it. So a find requested after an insert was
+-- answered true, where nothing is deleted, is not answered false: such a history has no order. Rests on Teeth.
 use mathlib.Core.Path.{_≡_, refl, sym, _∙_, ap, subst}
 use mathlib.Core.Logic.{_≢_, inl, inr}
 use mathlib.Core.Bool.{true}
@@ -66,7 +66,8 @@ module _ (H : History) (order : Order H) (s u : Slot) (v : Answer) (m : List·Me
 
 -- where nothing is deleted, a find of an address that is in is true
 found-in : (a : Address) (s : Set) (l : List Slot) → ((x : Slot) → List·Memᴰ x l → x .operation .kind ≢ delete) → s a ≡ true → SameAnswers s l
-    → (u : Slot) (v : Answer) → List·Memᴰ u l → u .operation .kind ≡ find → u .operation .address ≡ a → u .operation .answer ≡ some v → v .value ≡ True
+    → (u : Slot) (v : Answer) → List·Memᴰ u l → u .operation .kind ≡ find → u .operation .address ≡ a → u .operation .answer ≡ some v
+    → v .value ≡ True
 found-in a s [] n e z u v m k q h = absurd (List·Memᴰ·not-nil m)
 found-in a s (x ∷ l) n e z u v m k q h = elim (List·Memᴰ·cases-cons m) [
   | inl p ↦ subst (λ y. y .operation .answer ≡ some v → y .operation .kind ≡ find → y .operation .address ≡ a → v .value ≡ True) (sym p) here h k q

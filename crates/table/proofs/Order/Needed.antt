@@ -1,5 +1,5 @@
--- What `rising`, `begun` and `ended` are needed for: a history without an order that would have one if any one of the three were not asked. An insert is
--- answered true, a find requested afterwards false; without one of them the find may stand before the insert. Rests on Before.
+-- What `rising`, `begun` and `ended` are needed for: a history without an order that would have one if any one of the three were not asked. An
+-- insert is answered true, a find requested afterwards false; without one of them the find may stand before the insert. Rests on Before.
 use mathlib.Core.Path.{_≡_, refl, sym, ap}
 use mathlib.Core.Logic.{_≢_, inl, inr, _↔_}
 use mathlib.Core.Bool.{true, false, or-false}
@@ -13,7 +13,8 @@ use borrow.Author.Tests.{eqb-true, eq-eqb}
 use Rattle.record.specs.Record.{False, True, Fail}
 use Rattle.record.specs.declared.Process.{Process}
 use Rattle.record.specs.declared.Address.{Address}
-use Rattle.table.specs.History.{insert, delete, find, Answer, Operation, History, Slot, Stands, NeverFalls, NoneTwice, worked, SameAnswers, Order}
+use Rattle.table.specs.History.{insert, delete, find, Answer, Operation, History, Slot, Stands, NeverFalls, NoneTwice, worked}
+use Rattle.table.specs.History.{SameAnswers, Order}
 use Rattle.table.proofs.Order.Before.{find-after-insert-is-not-false}
 
 -- ---- an order with other demands on a slot and on the moments
@@ -94,9 +95,11 @@ module _ (p q : Process) (a : Address) where
 
     whole : (r : ℕ) (o : Operation) (v : Answer) → insertThenFind .asked r ≡ some o → o .answer ≡ some v → v .value ≢ Fail
         → (t : ℕ) × List·Memᴰ (record { request = r; operation = o; moment = t }) (first ∷ second ∷ [])
-    whole zero o v e h n = (put, List·Memᴰ·tail (List·Memᴰ·head (ap (λ o. record { request = 0; operation = o; moment = put }) (sym (Option·some-injective insertion o e)))))
+    whole zero o v e h n =
+        (put, List·Memᴰ·tail (List·Memᴰ·head (ap (λ o. record { request = 0; operation = o; moment = put }) (sym (Option·some-injective _ o e)))))
     whole (suc zero) o v e h n = let z : _≡_ {A = ℕ} 0 1 = cc in absurd (omega arith)
-    whole (suc (suc zero)) o v e h n = (sought, List·Memᴰ·head (ap (λ o. record { request = 2; operation = o; moment = sought }) (sym (Option·some-injective seeking o e))))
+    whole (suc (suc zero)) o v e h n =
+        (sought, List·Memᴰ·head (ap (λ o. record { request = 2; operation = o; moment = sought }) (sym (Option·some-injective _ o e))))
     whole (suc (suc (suc k))) o v e h n = let z : _≡_ {A = ℕ} 0 1 = cc in absurd (omega arith)
 
     ends : (x : Address) → (worked (λ y. false) (first ∷ second ∷ []) x ≡ true) ↔ (x .0 ≡ a .0)
