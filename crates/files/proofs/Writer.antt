@@ -1,5 +1,5 @@
--- The writer's refusals: a refused write leaves the output as it was; 7 and 9 are given exactly where 01 gives them; what was written before a refused
--- event reads back. Rests on Written and Comes.
+-- The writer's refusals: a refused write leaves the output as it was; 7 and 9 are given exactly where 01 gives them; what was written before a
+-- refused event reads back. Rests on Written and Comes.
 use mathlib.Core.Path.{_≡_, refl, sym, ap, _∙_}
 use mathlib.Core.Logic.{_≢_, _⊎_, inl, inr, _↔_}
 use mathlib.Core.Bool.{false, false≢true}
