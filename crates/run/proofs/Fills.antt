@@ -13,7 +13,7 @@ use Rattle.text.specs.Put.{put, puts, putInto}
 use Rattle.basics.proofs.Rest.{rest-is, rest-back, length-rest}
 use Rattle.text.proofs.Puts.{roomy}
 use Rattle.run.specs.Filling.{Next, piece, nothing, Stop, stop, fillFrom}
-use Rattle.run.specs.Parts.{Reaches}
+use Rattle.run.specs.PrivatePromises.{Reaches}
 
 -- ---- what a writer leaves in the rest of a block
 
@@ -48,11 +48,29 @@ module _ (bytes block part : List ℕ) (at count : ℕ) (inside : at ≤ length 
       → Grows bytes block (putMid at (length block - at) block part) at (at + count)
   grows-into room e = grows (e ∙ roomy bytes _ (omega (arith, length-rest block at)))
 
+-- at the start of a block
+pub grows-first : (bytes block block′ : List ℕ) (count : ℕ) → 1 ≤ length bytes → 64 ≤ length block → length block′ ≡ length block → count ≤ 64
+    → put block′ count ≡ putInto bytes block → Grows bytes block block′ 0 count
+grows-first bytes block block′ count some room same few e =
+    let text = e ∙ roomy bytes block (omega arith) in
+    let counted : count ≡ length bytes = (λ i. text i .count) in
+    record {
+      laid-is = λ i. text i .part;
+      at-is = omega (arith, counted);
+      same-length = same;
+      within = omega (arith, same);
+      less = omega (arith, same, counted);
+    }
+
 -- ---- a turn of filling
 
 -- filling on from here comes to the whole
 abbrev pub FillsTo : {S : Type 0} → (S → Next S) → S → (block : List ℕ) → (at : ℕ) → (whole : Stop S) → Type 0
 FillsTo {S} next s block at whole = Reaches (Stop S) (λ turns. fillFrom next turns s block at) whole (length block - at)
+
+-- which may be known by another name
+pub to-same : {T : Type 0} {from : ℕ → T} {whole whole′ : T} {room : ℕ} → Reaches T from whole room → whole ≡ whole′ → Reaches T from whole′ room
+to-same r e = record { turns = r .turns; enough = r .enough; same = r .same ∙ e }
 
 -- two stops by a test that stops either way
 same-either : {A : Type 0} (b : Bool) (x : A) → x ≡ cond b x x

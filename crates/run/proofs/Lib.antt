@@ -1,3 +1,5 @@
 pub mod Fills
+pub mod LastTexts
 pub mod Steps
+pub mod TablesKept
 pub mod Unique

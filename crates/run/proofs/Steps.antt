@@ -1,30 +1,35 @@
--- What comes next in a run, by what its reader, its list and its walk gave. Rests on Pieces.
+-- What comes next in a run, by what its reader, its list and its walk gave. Rests on Pieces and on the table's law of an event in a row (Meets).
 use Prim.Native.Nat.{ℕ, zero, suc, _-_, _<_, _≤_}
 use mathlib.Core.List.{List, [], _∷_}
-use mathlib.Core.Bool.{Bool, true, false, cond, _&&_, true≢false, and-false}
+use mathlib.Core.Bool.{cond}
 use mathlib.Core.Path.{_≡_, refl, ap, sym, _∙_}
 use mathlib.Core.Logic.{_⊎_, ⊎-elim}
 use native.Mathlib.Omega.{arith}
-use borrow.Author.Tests.{lt-leb, leb-true, leb-false, ltb-true, ne-eqb}
-use lib.Dec.{leb, ltb, eqb}
+use borrow.Author.Tests.{lt-leb, ne-eqb}
+use lib.Dec.{eqb}
 use lib.ListN.{length, length-append, getD, set}
 use denote.Enum.Declared.{tagOf}
 use Rattle.record.specs.Record.{freshRecord, process}
-use Rattle.record.specs.Event.{processOf}
 use Rattle.record.specs.declared.Node.{Node}
+use Rattle.record.specs.declared.Process.{Process}
 use Rattle.record.specs.declared.Event.{Event}
 use Rattle.record.specs.declared.Outcome.the-variants as outcome
-use Rattle.table.specs.Words.{Memory, memory, linkAt, addressAt}
-use Rattle.table.specs.Events.{State, Acted, act, sizesFit, tablesFit, event, stored, recordIn, Leaves}
-use Rattle.table.proofs.Meets.{refused-anywhere}
-use Rattle.list.specs.Acting.{Left, actOn}
+use Rattle.table.specs.Words.{Memory}
+use Rattle.table.specs.Events.{State, act, event, stored, recordIn, Leaves}
+use Rattle.table.proofs.Laws.Fitting.{limits}
+use Rattle.table.proofs.Laws.Meets.{event-by-slot}
+use Rattle.words.specs.LentMemory.{sized}
+use Rattle.list.specs.Acting.{left}
+use Rattle.list.specs.declared.Acted.{Acted}
 use Rattle.schedule.specs.declared.Cursor.{Cursor}
 use Rattle.schedule.specs.declared.EventRead.{EventRead}
 use Rattle.schedule.specs.declared.EventRead.the-variants as read
 use Rattle.schedule.specs.declared.Header.{Header}
+use Rattle.schedule.specs.declared.HeaderRead.{HeaderRead}
 use Rattle.schedule.specs.declared.HeaderRead.the-variants as header
 use Rattle.schedule.specs.Cursors.{start, headerAt, eventAt}
-use Rattle.fresh.specs.Fresh.{TablesLeft, freshTables}
+use Rattle.fresh.specs.Fresh.{tablesLeft, freshSizes, freshTables}
+use Rattle.fresh.specs.declared.Made.{Made}
 use Rattle.schedule.proofs.EventRead as event-read
 use Rattle.chain.specs.Walking.{walkedFrom}
 use Rattle.chain.specs.declared.Walked.{Walked}
@@ -37,52 +42,25 @@ use Rattle.run.proofs.Phase as phase-type
 use Rattle.run.specs.Filling.{Next, piece, nothing, stop, fillFrom}
 use Rattle.run.specs.Pieces.{World, world, runOf, memoryOf, tableOf, inPhase, nextNumber, wentOn, toWalk}
 use Rattle.run.specs.Pieces.{eventNext, addressNext, nextPiece, fills, refusing, startOf, begins}
-use Rattle.run.specs.Parts.{Ready, slotOf, stoppedText, lastText}
+use Rattle.run.specs.PrivatePromises.{Ready, slotOf, stoppedText, lastText}
 use Rattle.run.proofs.Fills.{FillsTo, full, at-end}
 
--- ---- an event by the place of its process's record in a row of 64
+-- ---- the record of an event's process, in a row of 64
 
-too-many : (nodes processes : ℕ) (m : Memory) → 64 < processes → tablesFit nodes processes m ≡ false
-unfolding tablesFit sizesFit
-too-many nodes processes m h =
-    rw (lt-leb processes 64 h, and-false (leb 2 nodes && leb nodes 4096 && leb 1 processes))
+-- a process that is there has its own record, where the sizes fit
+own-slot : (processes : ℕ) (p : Process) → processes ≤ 64 → p .0 < processes → process (slotOf processes (p .0)) ≡ p
+unfolding slotOf
+own-slot processes p few there = rw (lt-leb processes (p .0) there, lt-leb 64 (p .0) (omega arith))
 
-module _ (σ : State) (e : Event) where
-  -- what an event leaves, acted on the record at a place
-  abbrev acts : ℕ → Acted
-  acts p = act (σ .nodes) (σ .processes) (σ .memory) (recordIn σ (process p)) e
+module _ (σ : State) (row : length (σ .row) ≡ 64) (e : Event) where
+  -- what an event leaves, worked on the record at a place
+  abbrev workedAt : ℕ → Leaves
+  workedAt at = stored σ (process at) (act (σ .memory) (e .process) (recordIn σ (process at)) (e .action))
 
-  abbrev at : ℕ → Leaves
-  at p = stored σ (process p) (acts p)
-
-  -- a process that is not there is refused at any place
-  anywhere : (p q : ℕ) → 64 ≤ processOf e .0 → at p ≡ at q
-  anywhere p q h = refused-anywhere σ (process p) e never ∙ sym (refused-anywhere σ (process q) e never)
-    where
-      never : tablesFit (σ .nodes) (σ .processes) (σ .memory) ≡ true → ltb (processOf e .0) (σ .processes) ≡ true → ⊥
-      never fit there =
-          let t = ltb-true (processOf e .0) (σ .processes) there in
-          true≢false (sym fit ∙ too-many (σ .nodes) (σ .processes) (σ .memory) (omega arith))
-
-  module _ (row : length (σ .row) ≡ 64) where
-    pub event-on-row : event σ e ≡ at (processOf e .0)
-    unfolding event
-    event-on-row = go (leb (σ .processes) 64) refl
-      where
-        go : (b : Bool) → leb (σ .processes) 64 ≡ b → cond (leb (σ .processes) (length (σ .row))) (at (processOf e .0))
-            (record { after = σ; outcome = outcome.Refused 7 }) ≡ at (processOf e .0)
-        go true h = rw (row, h)
-        go false h =
-            let f = too-many (σ .nodes) (σ .processes) (σ .memory) (leb-false (σ .processes) 64 h) in
-            rw (row, h) (sym (rw f at (refused-anywhere σ (processOf e) e (λ fit there. true≢false (sym fit ∙ f)))))
-
-    pub event-by-slot : (p : ℕ) → p ≡ slotOf (processOf e .0) → event σ e ≡ at p
-    unfolding slotOf
-    event-by-slot p is = event-on-row ∙ (go (leb 64 (processOf e .0)) refl ∙ ap at (sym is))
-      where
-        go : (b : Bool) → leb 64 (processOf e .0) ≡ b → at (processOf e .0) ≡ at (cond b 0 (processOf e .0))
-        go true h = anywhere (processOf e .0) 0 (leb-true 64 (processOf e .0) h)
-        go false h = refl
+  event-at : (at : ℕ) → at ≡ slotOf (σ .memory .processes) (e .process .0) → event σ e ≡ workedAt at
+  event-at at is =
+      event-by-slot σ e (process at) (omega arith)
+      (λ fit there. ap process is ∙ own-slot (σ .memory .processes) (e .process) (limits (σ .memory) fit .few-processes) there)
 
 -- ---- the pieces
 
@@ -100,28 +78,27 @@ unfolding eventNext
 got-piece file w e next h = rw (h, eventNext)
 
 -- the world after an event, as the code leaves it, and its line
-module _ (w : World) (acting : w .run .phase ≡ Acting) (row : length (w .run .row) ≡ 64) (e : Event) (next : Cursor) (p number : ℕ) (x : Left)
-    (slot : p ≡ slotOf (processOf e .0)) (following : number ≡ nextNumber (w .run .number))
-    (is : x ≡ actOn (w .addresses) (w .links) (w .deleters) (w .run .sizes) (getD (w .run .row) p freshRecord) e) where
+module _ (m : Memory) (run : Run) (acting : run .phase ≡ Acting) (row : length (run .row) ≡ 64) (e : Event) (next : Cursor) (at number : ℕ)
+    (m′ : Memory) (x : Acted) (slot : at ≡ slotOf (run .sizes .processes) (e .process .0)) (following : number ≡ nextNumber (run .number))
+    (is : left m′ x ≡ act (sized (run .sizes) m) (e .process) (getD (run .row) at freshRecord) (e .action)) where
+  abbrev w : World
+  w = world m run
+
   abbrev after : World
-  after =
-      world (x .addresses) (x .links) (x .deleters)
-      (runOf (w .run .phase) next (x .answer .sizes) number (set (w .run .row) p (x .answer .advanced)))
+  after = world m′ (runOf (run .phase) next (x .sizes) number (set (run .row) at (x .advanced)))
 
-  leaves-is : event (tableOf w) e ≡ at (tableOf w) e p
-  leaves-is = event-by-slot (tableOf w) e row p slot
+  goes-on : piece (line (run .number) (workedAt (tableOf w) row e at .outcome)) (wentOn w next (workedAt (tableOf w) row e at .after))
+      ≡ piece (line (run .number) (x .outcome)) after
+  unfolding stored recordIn
+  goes-on = rw (following, ← is)
 
-  goes-on : piece (line (w .run .number) (at (tableOf w) e p .outcome)) (wentOn w next (at (tableOf w) e p .after))
-      ≡ piece (line (w .run .number) (x .answer .outcome)) after
-  unfolding actOn stored recordIn
-  goes-on = rw (following, is)
-
-  pub acted-piece : (file : List ℕ) → eventAt file (w .run .cursor) ≡ read.Got e next
-      → nextPiece file w ≡ piece (line (w .run .number) (x .answer .outcome)) after
+  pub acted-piece : (file : List ℕ) → eventAt file (run .cursor) ≡ read.Got e next
+      → nextPiece file w ≡ piece (line (run .number) (x .outcome)) after
   acted-piece file h =
       acting-piece file w acting
-      ∙ (got-piece file w e next h
-      ∙ (ap (λ (y : Leaves). piece (line (w .run .number) (y .outcome)) (wentOn w next (y .after))) leaves-is ∙ goes-on))
+      ∙ got-piece file w e next h
+      ∙ ap (λ (y : Leaves). piece (line (run .number) (y .outcome)) (wentOn w next (y .after))) (event-at (tableOf w) row e at slot)
+      ∙ goes-on
 
 -- what follows the last event
 abbrev NotGot : EventRead → Type 0
@@ -176,26 +153,24 @@ module _ (w : World) where
       let one-less : suc steps - 1 ≡ steps = omega arith in
       rw (ne-eqb (suc steps) 0 (λ z. omega arith), one-less)
 
-  -- by the promise of `walk_within`, which looks at no deleter
+  -- by the promise of `walk_within`
   pub walk-piece : (file : List ℕ) (n : Node) (steps left : ℕ) (x y : Walked) → w .run .phase ≡ Walking n steps
-      → x ≡ cond (eqb steps 0) Ends (walkedFrom (memory (w .addresses) (w .links) [] (w .run .sizes .count)) n) → left ≡ steps - 1 → x ≡ y
-      → nextPiece file w ≡ gaveBy left y
-  unfolding walkedFrom linkAt addressAt
+      → x ≡ cond (eqb steps 0) Ends (walkedFrom (memoryOf w) n) → left ≡ steps - 1 → x ≡ y → nextPiece file w ≡ gaveBy left y
   walk-piece file n steps left x y walking is fewer e =
       walking-piece file w n steps walking ∙ (address-next n steps ∙ (λ i. gaveBy (sym fewer i) ((sym is ∙ e) i)))
 
 -- ---- how a run begins
 
-pub begin-got : (file addresses links deleters : List ℕ) (h : Header) (next : Cursor) (x : TablesLeft) (r : Run)
-    → headerAt file start ≡ header.Got h next → x ≡ freshTables addresses links deleters (h .nodes) (h .processes)
-    → r ≡ startOf next (x .answer) → world (x .addresses) (x .links) (x .deleters) r ≡ begins file addresses links deleters
-unfolding begins
-begin-got file addresses links deleters h next x r e made is = rw (e, begins, is, made)
+-- by what the reader gave, and the tables made fresh
+module _ (file : List ℕ) (m : Memory) (read : HeaderRead) (r : Run) (is : read ≡ headerAt file start) where
+  pub begin-got : (m′ : Memory) (h : Header) (next : Cursor) (made : Made) → read ≡ header.Got h next
+      → tablesLeft m′ made ≡ freshTables (sized (freshSizes (h .nodes) (h .processes)) m) → r ≡ startOf next made → world m′ r ≡ begins file m
+  unfolding begins
+  begin-got m′ h next made got fresh starts = rw (sym is ∙ got, begins, ← fresh, starts)
 
-pub begin-refused : (file addresses links deleters : List ℕ) (number : ℕ) (r : Run) → headerAt file start ≡ header.Refused number
-    → r ≡ refusing number → world addresses links deleters r ≡ begins file addresses links deleters
-unfolding begins
-begin-refused file addresses links deleters number r e is = rw (e, begins, is)
+  pub begin-refused : (number : ℕ) → read ≡ header.Refused number → r ≡ refusing number → world m r ≡ begins file m
+  unfolding begins
+  begin-refused number refused starts = rw (sym is ∙ refused, begins, starts)
 
 -- ---- where filling stands
 

@@ -1,4 +1,4 @@
 pub mod Filling
 pub mod Pieces
-pub mod Parts
+pub mod PrivatePromises
 pub mod Output

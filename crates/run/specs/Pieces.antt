@@ -10,10 +10,10 @@ use Rattle.record.specs.declared.Node.{Node}
 use Rattle.record.specs.declared.Record.{Record}
 use Rattle.record.specs.declared.Outcome.the-variants as outcome
 use Rattle.table.specs.Words.{Memory, aboveAll}
-use Rattle.table.specs.Events.{State, event}
-use Rattle.words.specs.Lent.{stateIn, sizesOf}
+use Rattle.table.specs.Events.{State, stateOf, event}
+use Rattle.words.specs.LentMemory.{sized, sizesOf}
 use Rattle.words.specs.declared.Sizes.{Sizes}
-use Rattle.fresh.specs.Fresh.{freshTables}
+use Rattle.fresh.specs.Fresh.{freshSizes, freshTables}
 use Rattle.fresh.specs.declared.Made.{Made}
 use Rattle.fresh.specs.declared.Made.the-variants.{Fresh, Refused}
 use Rattle.chain.specs.Walking.{walkedFrom}
@@ -28,32 +28,31 @@ use Rattle.run.specs.declared.Phase.the-variants.{Refusing, Acting, Walk
 use Rattle.run.specs.declared.Run.{Run}
 use Rattle.run.specs.Filling.{Next, piece, nothing, Stop, fillFrom}
 
--- everything that a run reads and changes: the lent tables, and the run by value
+-- everything that a run reads and changes: a memory, and the run by value
 pub record World : Type 0 where
-  pub addresses : List ℕ
-  pub links : List ℕ
-  pub deleters : List ℕ
+  pub memory : Memory
   pub run : Run
 
-abbrev pub world : List ℕ → List ℕ → List ℕ → Run → World
-world addresses links deleters run = record { addresses = addresses; links = links; deleters = deleters; run = run }
+-- a run that stands in a memory: the sizes are those that the run states
+abbrev pub world : Memory → Run → World
+world m run = record { memory = sized (run .sizes) m; run = run }
 
 abbrev pub runOf : Phase → Cursor → Sizes → ℕ → List Record → Run
 runOf phase cursor sizes number row = record { phase = phase; cursor = cursor; sizes = sizes; number = number; row = row }
 
--- its state in the place table, and its memory
-abbrev pub tableOf : World → State
-tableOf w = stateIn (w .addresses) (w .links) (w .deleters) (w .run .sizes) (w .run .row)
-
+-- its memory, and its state in the place table
 abbrev pub memoryOf : World → Memory
-memoryOf w = tableOf w .memory
+memoryOf w = sized (w .run .sizes) (w .memory)
+
+abbrev pub tableOf : World → State
+tableOf w = stateOf (memoryOf w) (w .run .row)
 
 -- the same but for its phase
 abbrev pub phase≔ : Phase → Run → Run
 phase≔ phase run = runOf phase (run .cursor) (run .sizes) (run .number) (run .row)
 
 abbrev pub inPhase : Phase → World → World
-inPhase phase w = world (w .addresses) (w .links) (w .deleters) (phase≔ phase (w .run))
+inPhase phase w = world (w .memory) (phase≔ phase (w .run))
 
 -- "its number from 0"; a file has fewer events than there are 32-bit numbers
 unfoldable pub nextNumber : ℕ → ℕ
@@ -61,9 +60,7 @@ nextNumber n = cond (ltb n 4294967295) (n + 1) n
 
 -- an event acted on: the table's state after it, and the cursor after it
 abbrev pub wentOn : World → Cursor → State → World
-wentOn w next σ =
-    world (σ .memory .addresses) (σ .memory .links) (σ .memory .deleters)
-    (runOf (w .run .phase) next (sizesOf σ) (nextNumber (w .run .number)) (σ .row))
+wentOn w next σ = world (σ .memory) (runOf (w .run .phase) next (sizesOf (σ .memory)) (nextNumber (w .run .number)) (σ .row))
 
 -- the walk for the last line begins at head
 abbrev pub toWalk : World → World
@@ -109,9 +106,13 @@ fills file w block = fillFrom (nextPiece file) (suc (length block)) w block 0
 abbrev pub freshRow : List Record
 freshRow = replicate 64 freshRecord
 
+-- before a header is accepted no sizes are stated
+abbrev pub unstated : Sizes
+unstated = record { nodes = 0; processes = 0; count = 0 }
+
 -- a run that has only to say why its header was refused
 abbrev pub refusing : ℕ → Run
-refusing number = runOf (Refusing number) start (record { nodes = 0; processes = 0; count = 0 }) 0 freshRow
+refusing number = runOf (Refusing number) start unstated 0 freshRow
 
 -- "a lent table too short" is refused as a header is
 unfoldable pub startOf : Cursor → Made → Run
@@ -119,11 +120,11 @@ startOf next (Fresh sizes) = runOf Acting next sizes 0 freshRow
 startOf next (Refused number) = refusing number
 
 -- "An accepted header makes the tables fresh; a refused one changes nothing."
-unfoldable pub begins : (file addresses links deleters : List ℕ) → World
-begins file addresses links deleters =
+unfoldable pub begins : (file : List ℕ) → Memory → World
+begins file m =
     elim (headerAt file start) [
       | header.Got h next ↦
-          let x = freshTables addresses links deleters (h .nodes) (h .processes) in
-          world (x .addresses) (x .links) (x .deleters) (startOf next (x .answer))
-      | header.Refused number ↦ world addresses links deleters (refusing number)
+          let x = freshTables (sized (freshSizes (h .nodes) (h .processes)) m) in
+          world (x .memory) (startOf next (x .answer))
+      | header.Refused number ↦ world m (refusing number)
     ]

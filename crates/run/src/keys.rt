@@ -7,26 +7,28 @@ use chain::walk_on;
 use record::Node;
 use text::put_address;
 use text::put_newline;
+use words::Sizes;
 ghost use mathlib.Core.Path.{_≡_};
 ghost use mathlib.Core.Bool.{cond};
-ghost use mathlib.Core.List.{[]};
 ghost use Prim.Native.Nat.{_≤_, _-_};
 ghost use lib.Dec.{eqb};
 ghost use lib.ListN.{length};
-ghost use Rattle.table.specs.Words.{memory};
+ghost use Rattle.table.specs.Words.{Memory, addresses≔, links≔};
+ghost use Rattle.words.specs.LentMemory.{sized};
 ghost use Rattle.chain.specs.Walking.{walkedFrom};
 ghost use Rattle.chain.specs.declared.Walked.the-variants.{Ends};
 ghost use Rattle.run.specs.declared.Phase.the-variants.{Walking};
-ghost use Rattle.run.specs.Parts.{FilledOn, Ready};
+ghost use Rattle.run.specs.PrivatePromises.{FilledOn, Ready};
 
 // One step of the walk, while it has steps left.
-fn walk_within(addresses: &[u32], links: &[u32], count: u32, from: Node, steps: u64) -> Walked
-    ensures { λ r. ⌜ r ≡ cond (eqb steps 0) Ends (walkedFrom (memory (now (addresses .entry)) (now (links .entry)) [] count) from) ⌝ }
+fn walk_within(addresses: &[u32], links: &[u32], sizes: Sizes, from: Node, steps: u64) -> Walked
+    ensures { λ r. ⌜ ((m : Memory) → r ≡ cond (eqb steps 0) Ends
+        (walkedFrom (sized sizes (links≔ (now (links .entry)) (addresses≔ (now (addresses .entry)) m))) from)) ⌝ }
 {
     if steps == 0 {
         return Walked::Ends;
     }
-    walk_on(addresses, links, count, from)
+    walk_on(addresses, links, sizes, from)
 }
 
 // One step fewer.
@@ -54,7 +56,7 @@ fn fill_addresses(
     ensures { λ r. ⌜ FilledOn (now (addresses .entry)) (now (links .entry)) run (now (block .entry)) from (r .run) (now (block .exit)) (r .count) ⌝ }
     ensures { λ r. ⌜ r .count ≤ length (now (block .exit)) ⌝ }
 {
-    let count = run.sizes.count;
+    let sizes = run.sizes;
     let mut at = from;
     let mut here = node;
     let mut left = steps;
@@ -63,7 +65,7 @@ fn fill_addresses(
             let run = run.in_phase(Phase::Walking(here, left));
             return Filled { count: at, run };
         }
-        let walked = walk_within(addresses, links, count, here, left);
+        let walked = walk_within(addresses, links, sizes, here, left);
         let Walked::Onto(onto, address) = walked else {
             let end = at + put_newline(&mut block[at..]);
             let run = run.in_phase(Phase::Over);

@@ -6,10 +6,13 @@ ghost use mathlib.Core.Path.{_≡_};
 ghost use mathlib.Core.List.{List};
 ghost use Prim.Native.Nat.{ℕ, _≤_, _-_};
 ghost use lib.ListN.{length};
+ghost use Rattle.table.specs.Words.{Memory};
+ghost use Rattle.words.specs.LentMemory.{lentMemory};
+ghost use Rattle.schedule.specs.Cursors.{start, headerAt};
 ghost use Rattle.run.specs.declared.Phase.the-variants.{Refusing};
 ghost use Rattle.run.specs.Filling.{stop};
-ghost use Rattle.run.specs.Pieces.{world, phase≔, fills, refusing, startOf, begins};
-ghost use Rattle.run.specs.Parts.{LeftOff, Ready};
+ghost use Rattle.run.specs.Pieces.{world, phase≔, fills, unstated, refusing, startOf, begins};
+ghost use Rattle.run.specs.PrivatePromises.{LeftOff, Ready};
 use fresh::Made;
 use fresh::fresh_tables;
 use keys::fill_keys;
@@ -105,13 +108,19 @@ fn start_of(next: Cursor, made: Made) -> Run
     }
 }
 
+// The header of a file, read from its start.
+fn header_of(file: &[u8]) -> HeaderRead
+    ensures { λ r. ⌜ r ≡ headerAt (now (file .entry)) start ⌝ }
+{
+    read_header(file, Cursor::start())
+}
+
 // A run at the start of a file: its header read, and the lent tables made fresh where it is accepted.
 pub fn begin(file: &[u8], addresses: &mut [u32], links: &mut [u32], deleters: &mut [u32]) -> Run
-    ensures { λ r. ⌜ world (now (addresses .exit)) (now (links .exit)) (now (deleters .exit)) r ≡
-        begins (now (file .entry)) (now (addresses .entry)) (now (links .entry)) (now (deleters .entry)) ⌝ }
+    ensures { λ r. ⌜ world (lentMemory (now (addresses .exit)) (now (links .exit)) (now (deleters .exit)) (r .sizes)) r ≡
+        begins (now (file .entry)) (lentMemory (now (addresses .entry)) (now (links .entry)) (now (deleters .entry)) unstated) ⌝ }
 {
-    let cursor = Cursor::start();
-    let read = read_header(file, cursor);
+    let read = header_of(file);
     match read {
         HeaderRead::Got(header, next) => {
             let made = fresh_tables(addresses, links, deleters, header.nodes, header.processes);
@@ -124,8 +133,8 @@ pub fn begin(file: &[u8], addresses: &mut [u32], links: &mut [u32], deleters: &m
 // The line of a refused header.
 fn fill_refusal(block: &mut [u8], run: Run, number: u8) -> Filled
     requires { ⌜ run .phase ≡ Refusing number ⌝ }
-    ensures { λ r. ⌜ ((file addresses links deleters : List ℕ) → LeftOff file (world addresses links deleters run) (now (block .entry))
-        (world addresses links deleters (r .run)) (now (block .exit)) (r .count)) ⌝ }
+    ensures { λ r. ⌜ ((file : List ℕ) (m : Memory) →
+        LeftOff file (world m run) (now (block .entry)) (world m (r .run)) (now (block .exit)) (r .count)) ⌝ }
     ensures { λ r. ⌜ r .count ≤ length (now (block .exit)) ⌝ }
     ensures { λ r. ⌜ Ready (r .run .phase) (length (now (block .exit)) - r .count) ⌝ }
 {
@@ -147,8 +156,9 @@ fn fill_first(
     run: Run,
 ) -> Filled
     ensures { λ r. ⌜ LeftOff (now (file .entry))
-        (world (now (addresses .entry)) (now (links .entry)) (now (deleters .entry)) run) (now (block .entry))
-        (world (now (addresses .exit)) (now (links .exit)) (now (deleters .exit)) (r .run)) (now (block .exit)) (r .count) ⌝ }
+        (world (lentMemory (now (addresses .entry)) (now (links .entry)) (now (deleters .entry)) (run .sizes)) run) (now (block .entry))
+        (world (lentMemory (now (addresses .exit)) (now (links .exit)) (now (deleters .exit)) (r .run .sizes)) (r .run))
+        (now (block .exit)) (r .count) ⌝ }
     ensures { λ r. ⌜ r .count ≤ length (now (block .exit)) ⌝ }
     ensures { λ r. ⌜ Ready (r .run .phase) (length (now (block .exit)) - r .count) ⌝ }
 {
@@ -171,8 +181,11 @@ pub fn fill(
     block: &mut [u8],
     run: Run,
 ) -> Filled
-    ensures { λ r. ⌜ stop (world (now (addresses .exit)) (now (links .exit)) (now (deleters .exit)) (r .run)) (now (block .exit)) (r .count) ≡
-        fills (now (file .entry)) (world (now (addresses .entry)) (now (links .entry)) (now (deleters .entry)) run) (now (block .entry)) ⌝ }
+    ensures { λ r. ⌜
+        stop (world (lentMemory (now (addresses .exit)) (now (links .exit)) (now (deleters .exit)) (r .run .sizes)) (r .run))
+        (now (block .exit)) (r .count) ≡
+        fills (now (file .entry)) (world (lentMemory (now (addresses .entry)) (now (links .entry)) (now (deleters .entry)) (run .sizes)) run)
+        (now (block .entry)) ⌝ }
     ensures { λ r. ⌜ r .count ≤ length (now (block .exit)) ⌝ }
 {
     let first = fill_first(file, addresses, links, deleters, block, run);

@@ -3,8 +3,6 @@ use crate::Filled;
 use crate::Phase;
 use crate::Run;
 use list::act;
-use list::process_of;
-use record::Event;
 use record::HEAD;
 use record::Outcome;
 use record::Process;
@@ -19,29 +17,25 @@ use words::Sizes;
 ghost use mathlib.Core.Path.{_≡_};
 ghost use Prim.Native.Nat.{_<_, _≤_, _-_};
 ghost use lib.ListN.{length};
-ghost use Rattle.record.specs.Event.{processOf};
+ghost use Rattle.words.specs.LentMemory.{lentMemory};
 ghost use Rattle.text.specs.Put.{put, puts};
 ghost use Rattle.run.specs.declared.Phase.the-variants.{Acting};
 ghost use Rattle.run.specs.Pieces.{world, runOf, nextNumber};
-ghost use Rattle.run.specs.Parts.{LeftOff, Ready, slotOf, stoppedText, lastText};
+ghost use Rattle.run.specs.PrivatePromises.{LeftOff, Ready, slotOf, stoppedText, lastText};
 
-// The place of a process's record in the row.
-fn slot(process: Process) -> usize
-    ensures { λ r. ⌜ r ≡ slotOf (process .0) ⌝ }
+// The place of a process's record in the row, by the stated number of processes. A process that is not there has the first: it is refused, and
+// the record stays.
+fn slot(process: Process, processes: u32) -> usize
+    ensures { λ r. ⌜ r ≡ slotOf processes (process .0) ⌝ }
     ensures { λ r. ⌜ r < 64 ⌝ }
 {
+    if processes <= process.0 {
+        return 0;
+    }
     if 64 <= process.0 {
         return 0;
     }
     process.0 as usize
-}
-
-// The place of the record of an event's process.
-fn slot_for(event: Event) -> usize
-    ensures { λ r. ⌜ r ≡ slotOf (processOf event .0) ⌝ }
-    ensures { λ r. ⌜ r < 64 ⌝ }
-{
-    slot(process_of(event))
 }
 
 // The number of the next line.
@@ -109,8 +103,10 @@ pub(crate) fn fill_lines(
     run: Run,
 ) -> Filled
     requires { ⌜ run .phase ≡ Acting ⌝ }
-    ensures { λ r. ⌜ LeftOff (now (file .entry)) (world (now (addresses .entry)) (now (links .entry)) (now (deleters .entry)) run)
-        (now (block .entry)) (world (now (addresses .exit)) (now (links .exit)) (now (deleters .exit)) (r .run)) (now (block .exit)) (r .count) ⌝ }
+    ensures { λ r. ⌜ LeftOff (now (file .entry))
+        (world (lentMemory (now (addresses .entry)) (now (links .entry)) (now (deleters .entry)) (run .sizes)) run) (now (block .entry))
+        (world (lentMemory (now (addresses .exit)) (now (links .exit)) (now (deleters .exit)) (r .run .sizes)) (r .run))
+        (now (block .exit)) (r .count) ⌝ }
     ensures { λ r. ⌜ r .count ≤ length (now (block .exit)) ⌝ }
     ensures { λ r. ⌜ Ready (r .run .phase) (length (now (block .exit)) - r .count) ⌝ }
 {
@@ -129,8 +125,10 @@ pub(crate) fn fill_lines(
             let walking = Phase::Walking(HEAD, ABOVE_ALL);
             return filled_to(at + m, walking, cursor, sizes, number, row);
         };
-        let p = slot_for(event);
-        let acted = act(addresses, links, deleters, sizes, row[p], event);
+        let process = event.process;
+        let action = event.action;
+        let p = slot(process, sizes.processes);
+        let acted = act(addresses, links, deleters, sizes, process, row[p], action);
         let advanced = acted.advanced;
         row[p] = advanced;
         cursor = next;

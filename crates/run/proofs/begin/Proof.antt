@@ -1,17 +1,22 @@
--- A header that was read, and one that was refused.
-use mathlib.Core.Path.{ap, sym, _∙_}
+-- A header that was read, and one that was refused. Rests on Steps.
 use Rattle.run.proofs.Steps.{begin-got, begin-refused}
-use Rattle.fresh.specs.Fresh.{tablesLeft}
-use Rattle.schedule.specs.Cursors.{headerAt}
 use borrow.Author.Needs.{needs}
 use Rattle.run.proofs.begin.Statement.{statement}
 use Rattle.run.proofs.begin.Tie as tie
 
-start-requires : tie.Need-start-requires
-start-requires c κs = search needs
+-- back to the tables made fresh, and from there to the header that was read
+abbrev tables-made : tie.After-start-of → tie.After-fresh-tables
+tables-made c =
+    let deleters = c .before .before in
+    let links = deleters .before .before in
+    let addresses = links .before .before in
+    addresses .before
 
-read-header-requires : tie.Need-read-header-requires
-read-header-requires c κs = search needs
+abbrev header-got : tie.After-fresh-tables → tie.After-read
+header-got c = let lent = c .before .before .before in lent .before .before
+
+header-of-requires : tie.Need-header-of-requires
+header-of-requires c κs = search needs
 
 enum-known-read : tie.Need-enum-known-read
 enum-known-read c = search needs
@@ -39,33 +44,20 @@ same-length-3 c = search needs
 
 returns : tie.Need-returns
 returns c =
-    let c7 = c .before .before .before .before .before .before .before in
-    let c12 = c7 .before .before .before .before .before in
-    let c14 = c12 .before .before in
-    let c15 = c14 .before in
-    let c20 = c15 .before .before .before .before .before in
-    let a = c20 .args in
-    let t = c7 .fresh-tables in
-    let h = ap (headerAt (a .file .now)) (sym
-    (c15 .start .ensures)) ∙ (sym (c14 .read-header .ensures) ∙ c12 .read .given .1) in
-    begin-got (a .file .now) (a .addresses .now) (a .links .now) (a .deleters .now) _ _ (tablesLeft (t .last .0) (t .last .1 .0) (t .last .1 .1 .0)
-    (t .result)) _ h (t .ensures) (c .start-of .ensures)
+    let made = tables-made c in
+    let got = header-got made in
+    begin-got _ _ _ _ (got .before .before .header-of .ensures) _ _ _ _ (got .read .given .1) (made .fresh-tables .ensures) (c .start-of .ensures)
 
 returns-2 : tie.Need-returns-2
 returns-2 c =
-    let c5 = c .before .before .before .before .before in
-    let c10 = c5 .before .before .before .before .before in
-    let a = c10 .args in
-    let h = ap (headerAt (a .file .now)) (sym (c5 .start .ensures)) ∙ (sym
-    (c .before .before .before .before .read-header .ensures) ∙ c .before .before .read2 .given .1) in
-    begin-refused (a .file .now) (a .addresses .now) (a .links .now) (a .deleters .now) _ _ h (c .refusing .ensures)
+    let refused = c .before .before in
+    begin-refused _ _ _ _ (refused .before .before .header-of .ensures) _ (refused .read2 .given .1) (c .refusing .ensures)
 
 pub begin-spec : {M : Type 1} → statement M
 begin-spec =
     tie.close
     (tie.spec
-    start-requires
-    read-header-requires
+    header-of-requires
     enum-known-read
     fresh-tables-requires
     start-of-requires

@@ -1,9 +1,19 @@
--- What comes before the addresses, and then these.
+-- What comes before the addresses, and then these. Rests on the promises of the two.
 use mathlib.Core.Path.{_∙_}
-use Prim.Native.Nat.{_-_}
+use Rattle.words.specs.LentMemory.{lentMemory}
 use borrow.Author.Needs.{needs}
 use Rattle.run.proofs.fill.Statement.{statement}
 use Rattle.run.proofs.fill.Tie as tie
+
+-- back from the addresses to what was filled before them
+abbrev first-filled : tie.After-fill-keys → tie.After-fill-first
+first-filled c =
+    let lent = c .before .before .before in
+    let block = lent .before .before .before in
+    let deleters = block .before .before in
+    let links = deleters .before .before in
+    let addresses = links .before .before in
+    addresses .before
 
 fill-first-requires : tie.Need-fill-first-requires
 fill-first-requires c κs = search needs
@@ -25,12 +35,12 @@ same-length-4 c = search needs
 
 returns : tie.Need-returns
 returns c =
-    let c15 = c .before .before .before .before .before .before .before .before .before .before .before .before .before .before .before in
-    let c25 = c15 .before .before .before .before .before .before .before .before .before .before in
-    let a = c25 .args in
-    let f = c15 .fill-first in
-    let k = c .before .before .fill-keys in
-    (k .ensures .0 (a .file .now) (f .last .1 .1 .1 .0) (f .ensures .0 .turns) (f .ensures .0 .enough) ∙ f .ensures .0 .same, k .ensures .1)
+    let keys = c .before .before in
+    let first = first-filled keys .fill-first in
+    let m = lentMemory (first .last .1 .0) (first .last .1 .1 .0) (first .last .1 .1 .1 .0) (first .result .run .sizes) in
+    let left-off = first .ensures .0 in
+    let k = keys .fill-keys .ensures in
+    (k .0 _ m (left-off .turns) (left-off .enough) ∙ left-off .same, k .1)
 
 pub fill-spec : {M : Type 1} → statement M
 fill-spec =

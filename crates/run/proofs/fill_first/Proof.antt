@@ -1,10 +1,18 @@
--- One case for each phase.
-use Prim.Native.Nat.{_-_}
+-- One case for each phase. Rests on Steps.
 use native.Mathlib.Omega.{arith}
+use Rattle.words.specs.LentMemory.{lentMemory}
 use Rattle.run.proofs.Steps.{from-start}
 use borrow.Author.Needs.{needs}
 use Rattle.run.proofs.fill_first.Statement.{statement}
 use Rattle.run.proofs.fill_first.Tie as tie
+
+-- back from a refusal to the entry
+abbrev entry : tie.After-fill-refusal → tie.Start
+entry c =
+    let phase = c .before .before .before in
+    let block = phase .before .before in
+    let links = block .before .before in
+    links .before .before .before
 
 enum-known-phase : tie.Need-enum-known-phase
 enum-known-phase c = search needs
@@ -29,9 +37,10 @@ same-length c = search needs
 
 returns : tie.Need-returns
 returns c =
-    let a = c .before .before .before .before .before .before .before .before .before .before .before .before .args in
-    let f = c .before .before .fill-refusal in
-    (f .ensures .0 (a .file .now) (a .addresses .now) (a .links .now) (a .deleters .now), f .ensures .1)
+    let refusal = c .before .before in
+    let a = entry refusal .args in
+    let f = refusal .fill-refusal in
+    (f .ensures .0 (a .file .now) (lentMemory (a .addresses .now) (a .links .now) (a .deleters .now) (a .run .sizes)), f .ensures .1)
 
 same-length-2 : tie.Need-same-length-2
 same-length-2 c = search needs

@@ -53,6 +53,11 @@ pub long-is : (nodes : ℕ) (long : Lengths) → LongEnough nodes long → longE
 long-is nodes long o =
     rw (le-leb nodes (long .addresses) (o .addresses), le-leb nodes (long .links) (o .links), le-leb nodes (long .deleters) (o .deleters))
 
+-- long enough for more is long enough
+pub long-for-fewer : (nodes more : ℕ) (long : Lengths) → nodes ≤ more → LongEnough more long → LongEnough nodes long
+long-for-fewer nodes more long few o =
+    record { addresses = omega (arith, o .addresses); links = omega (arith, o .links); deleters = omega (arith, o .deleters) }
+
 -- no table grows or shrinks
 abbrev pub AsLong : Memory → Memory → Type 0
 AsLong m m′ = lengths m′ ≡ lengths m

@@ -27,7 +27,7 @@ use Rattle.table.specs.Steps.{link, deleter, wordMet, accessOf, inRange,
 use Rattle.table.specs.Events.{Left, leaving, refused, step, does, tablesFit, act, State, stateOf, recordIn, Leaves, leavesIn, stored, event}
 use Rattle.basics.proofs.Tests.{by-test, if, and-left, and-right}
 use Rattle.table.proofs.Laws.Fitting.{LongEnough, long-is, SameSizes, same-sizes, written-sizes, given-sizes, Beyond, longer, long-longer}
-use Rattle.table.proofs.Laws.Fitting.{Room, room-of}
+use Rattle.table.proofs.Laws.Fitting.{Room, room-of, room-written, room-given}
 use Rattle.table.proofs.Laws.InUse.{head-in-use, within, same-longer, next-within}
 use Rattle.table.proofs.Laws.Meets.{does-alone, by-action, does-meets, act-judged, act-meets, event-meets, event-in-row, event-of-nobody}
 
@@ -356,3 +356,18 @@ holds-stays σ e h =
       tables = subst (LongEnough (event σ e .after .memory .nodes)) (sym (s .memory .tables)) (rw (s .memory .nodes) (h .tables));
       row = omega (arith, s .memory .processes, s .row, h .row);
     }
+
+-- ---- and where the count lies within the nodes, it stays so
+
+pub room-stays : (σ : State) (e : Event) → Room (σ .memory) → Room (event σ e .after .memory)
+unfolding stored
+room-stays σ e room =
+    let m = σ .memory in
+    let r = recordIn σ (e .process) in
+    event-meets σ e (λ l. Room (l .after .memory))
+    (λ long. act-meets (λ d. Room (d .memory)) m (e .process) r (e .action) (λ n. room)
+    (λ fit there. does-meets (λ d. Room (d .memory)) m (e .process) r (e .action)
+    room (λ a is spare. room-given a room spare)
+    room (λ is fits. room-written (turnIn m (e .process) r .writes) room)
+    (λ s alone. room)))
+    room

@@ -1,4 +1,4 @@
--- The addresses put so far, and filling on from here, come to filling from the start.
+-- The addresses put so far, and filling on from here, come to filling from the start. Rests on Fills and Steps.
 use mathlib.Core.Path.{_≡_, refl, _∙_}
 use mathlib.Core.List.{List, [], _∷_}
 use Prim.Native.Nat.{ℕ, _+_, _-_, _<_, _≤_}
@@ -6,12 +6,13 @@ use native.Mathlib.Omega.{arith}
 use lib.ListN.{length}
 use borrow.Author.Needs.{needs}
 use borrow.Rule.Slice.PartMut.{putMid}
+use Rattle.table.specs.Words.{Memory, addresses≔, links≔}
 use Rattle.run.specs.declared.Phase.the-variants.{Walking, Over}
 use Rattle.chain.specs.declared.Walked.the-variants.{Onto, Ends}
 use Rattle.run.specs.Filling.{fillFrom}
 use Rattle.run.proofs.Fills.{Grows, FillsTo, grows-into, full, at-end, onward}
 use Rattle.text.specs.Text.{decimal, space, newline}
-use Rattle.run.specs.Pieces.{world, phase≔, inPhase, nextPiece}
+use Rattle.run.specs.Pieces.{World, world, phase≔, inPhase, nextPiece}
 use Rattle.run.proofs.Steps.{walk-piece, over-nothing}
 use Rattle.run.proofs.keys.fill_addresses.Statement.{statement}
 use Rattle.run.proofs.keys.fill_addresses.Tie as tie
@@ -23,22 +24,43 @@ record Walks (block block₀ at : ℕ) (R : Type 0) : Type 0 where
   reached : R
 
 abbrev Inv-loop : tie.InvT-loop
-Inv-loop addresses links block₀ from run steps count at₀ here₀ left₀ block at here left =
+Inv-loop addresses links block₀ from run steps sizes at₀ here₀ left₀ block at here left =
     Walks (length block) (length block₀) at
-    ((file deleters : List ℕ) (turns : ℕ) → length block₀ - at₀ < turns
-    → FillsTo (nextPiece file) (world addresses links deleters (phase≔ (Walking here left) run)) block at
-    (fillFrom (nextPiece file) turns (world addresses links deleters run) block₀ at₀))
+    ((file : List ℕ) (m : Memory) (turns : ℕ) → length block₀ - at₀ < turns
+    → FillsTo (nextPiece file) (world (links≔ links (addresses≔ addresses m)) (phase≔ (Walking here left) run)) block at
+    (fillFrom (nextPiece file) turns (world (links≔ links (addresses≔ addresses m)) run) block₀ at₀))
 
 abbrev μ-loop : tie.MeasureT-loop
-μ-loop addresses links block₀ from run steps count at₀ here₀ left₀ block at here left = length block - at
+μ-loop addresses links block₀ from run steps sizes at₀ here₀ left₀ block at here left = length block - at
+
+-- ---- where the facts stand
+
+-- back from the run's sizes to the entry
+abbrev entry : tie.After-sizes Inv-loop μ-loop → tie.Start Inv-loop μ-loop
+entry c = let links = c .before .before in links .before .before
+
+-- back from where an address is put: to the step of the walk, and to the room told
+abbrev walked-on : tie.After-put-address Inv-loop μ-loop → tie.After-walked Inv-loop μ-loop
+walked-on c = let fewer = c .before .before in fewer .before .before
+
+abbrev with-room : tie.After-walked Inv-loop μ-loop → tie.Else1 Inv-loop μ-loop
+with-room c = c .before .before .before
+
+-- the run that walks at the loop, in any memory
+abbrev walking : tie.At-loop Inv-loop μ-loop → Memory → World
+walking c m =
+    let a = entry (c .before) .args in
+    world (links≔ (a .links .now) (addresses≔ (a .addresses .now) m)) (phase≔ (Walking (c .loop .here) (c .loop .left)) (a .run))
+
+-- ---- the needs
 
 loop-holds : tie.Need-loop-holds Inv-loop μ-loop
 loop-holds c =
-    let s = c .before .before .before in
+    let s = entry c in
     record {
       block-is = refl;
       within = s .pre .0;
-      reached = λ file deleters turns h. record { turns = turns; enough = h; same = rw (s .pre .1) };
+      reached = λ file m turns h. record { turns = turns; enough = h; same = rw (s .pre .1) };
     }
 
 sub-if1 : tie.Need-sub-if1 Inv-loop μ-loop
@@ -53,8 +75,8 @@ same-length c = search needs
 returns : tie.Need-returns Inv-loop μ-loop
 returns c =
     let l = c .before .before .loop in (
-      λ file deleters turns h.
-          let r = l .inv .reached file deleters turns h in
+      λ file m turns h.
+          let r = l .inv .reached file m turns h in
           rw (c .in-phase .ensures) (full (nextPiece file) _ (l .block) (l .at) (r .turns) (c .before .if1 .taken) ∙ r .same),
       l .inv .within,
     )
@@ -91,20 +113,19 @@ same-length-2 c = search needs
 
 returns-2 : tie.Need-returns-2 Inv-loop μ-loop
 returns-2 c =
-    let c5 = c .before .before .before .before .before in
-    let c7 = c5 .before .before in
-    let c8 = c7 .before in
-    let c9 = c8 .before in
-    let a = c9 .before .before .before .before .args in
-    let l = c9 .loop in
-    let p = c .before .before .before .put-newline in
-    let room = c8 .if1 .left in
-    let inside = l .inv .within in
-    let g = grows-into (newline ∷ []) (l .block) (p .last .0) (l .at) (p .result) inside (omega arith) (p .kept .0) room (p .ensures .0) in (
-      λ file deleters turns h.
-          let w = world (a .addresses .now) (a .links .now) deleters (phase≔ (Walking (l .here) (l .left)) (a .run)) in
-          let step = walk-piece w file (l .here) (l .left) _ _ Ends refl (c7 .walk-within .ensures) refl (c5 .enum-told .given .1) in
-          let r = onward (nextPiece file) w (l .block) (l .at) (l .inv .reached file deleters turns h) room step g in
+    let told = c .before .before .before in
+    let ends = told .before .before in
+    let walked = ends .before .before in
+    let room = walked .before in
+    let at-loop = room .before in
+    let l = at-loop .loop in
+    let p = told .put-newline in
+    let g = grows-into (newline ∷ []) (l .block) (p .last .0) (l .at) (p .result) (l .inv .within) (omega arith) (p .kept .0) (room .if1 .left)
+    (p .ensures .0) in (
+      λ file m turns h.
+          let w = walking at-loop m in
+          let step = walk-piece w file (l .here) (l .left) _ _ Ends refl (walked .walk-within .ensures m) refl (ends .enum-told .given .1) in
+          let r = onward (nextPiece file) w (l .block) (l .at) (l .inv .reached file m turns h) (room .if1 .left) step g in
           rw (c .in-phase2 .ensures)
           (at-end (nextPiece file) (inPhase Over w) _ (l .at + p .result) (r .turns) (over-nothing file (inPhase Over w) refl) ∙ r .same),
       g .within,
@@ -130,38 +151,37 @@ add-at c = search needs
 
 -- the address put
 address-grows : (c : tie.After-put-address Inv-loop μ-loop) →
-    let c4 = c .before .before .before .before in
-    let l = c4 .before .before .before .before .loop in
+    let walked = walked-on c in
+    let l = with-room walked .before .loop in
     let p = c .put-address in
-    Grows (space ∷ decimal (c4 .walked .given .0 .1 .0 .0)) (l .block) (putMid (l .at) (length (l .block) - l .at) (l .block) (p .last .0)) (l .at)
+    Grows (space ∷ decimal (walked .walked .given .0 .1 .0 .0)) (l .block) (putMid (l .at) (length (l .block) - l .at) (l .block) (p .last .0)) (l .at)
     (l .at + p .result)
 address-grows c =
-    let c7 = c .before .before .before .before .before .before .before in
-    let l = c7 .before .loop in
+    let room = with-room (walked-on c) in
+    let l = room .before .loop in
     let p = c .put-address in
-    grows-into _ (l .block) (p .last .0) (l .at) (p .result) (l .inv .within) (omega arith) (p .kept .0) (c7 .if1 .left) (p .ensures .0)
+    grows-into _ (l .block) (p .last .0) (l .at) (p .result) (l .inv .within) (omega arith) (p .kept .0) (room .if1 .left) (p .ensures .0)
 
 loop-less : tie.Need-loop-less Inv-loop μ-loop
 loop-less c = address-grows (c .before .before) .less
 
 loop-again : tie.Need-loop-again Inv-loop μ-loop
 loop-again c =
-    let c6 = c .before .before .before .before .before .before in
-    let c8 = c6 .before .before in
-    let c9 = c8 .before in
-    let c10 = c9 .before in
-    let l = c10 .loop in
-    let a = c10 .before .before .before .before .args in
-    let x = c6 .walked .given in
-    let g = address-grows (c .before .before) in
+    let told = c .before .before in
+    let walked = walked-on told in
+    let room = with-room walked in
+    let at-loop = room .before in
+    let l = at-loop .loop in
+    let x = walked .walked .given in
+    let g = address-grows told in
     record {
       block-is = g .same-length ∙ l .inv .block-is;
       within = g .within;
-      reached = λ file deleters turns h.
-          let w = world (a .addresses .now) (a .links .now) deleters (phase≔ (Walking (l .here) (l .left)) (a .run)) in
-          let fewer = c .before .before .before .before .fewer .ensures in
-          let step = walk-piece w file (l .here) (l .left) _ _ (Onto (x .0 .0) (x .0 .1 .0)) refl (c8 .walk-within .ensures) fewer (x .1) in
-          onward (nextPiece file) w (l .block) (l .at) (l .inv .reached file deleters turns h) (c9 .if1 .left) step g;
+      reached = λ file m turns h.
+          let w = walking at-loop m in
+          let step = walk-piece w file (l .here) (l .left) _ _ (Onto (x .0 .0) (x .0 .1 .0)) refl (walked .before .before .walk-within .ensures m)
+          (told .before .before .fewer .ensures) (x .1) in
+          onward (nextPiece file) w (l .block) (l .at) (l .inv .reached file m turns h) (room .if1 .left) step g;
     }
 
 pub fill-addresses-spec : {M : Type 1} → statement M

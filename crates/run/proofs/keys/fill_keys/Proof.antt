@@ -1,6 +1,5 @@
--- A run that walks, and one that does not.
+-- A run that walks, and one that does not. Rests on Steps.
 use Rattle.run.proofs.Steps.{not-walking}
-use Rattle.run.specs.Pieces.{world}
 use borrow.Author.Needs.{needs}
 use Rattle.run.proofs.keys.fill_keys.Statement.{statement}
 use Rattle.run.proofs.keys.fill_keys.Tie as tie
@@ -10,11 +9,9 @@ enum-known-phase c = search needs
 
 returns : tie.Need-returns
 returns c =
-    let a = c .before .before .before .before .args in (
-      λ file deleters turns h. not-walking file (world (a .addresses .now) (a .links .now) deleters (a .run)) (a .block .now) (a .from) turns
-          (c .match .keys2) (c .before .before .before .before .pre .1),
-      c .before .before .before .before .pre .0,
-    )
+    let links = c .before .before in
+    let start = links .before .before in
+    (λ file m turns h. not-walking file _ (start .args .block .now) (start .args .from) turns (c .match .keys2) (start .pre .1), start .pre .0)
 
 fill-addresses-requires : tie.Need-fill-addresses-requires
 fill-addresses-requires c κs = search needs

@@ -1,6 +1,6 @@
--- By the test on the process number.
+-- By the tests on the process number.
 use Rattle.basics.proofs.Conds.{conds}
-use Rattle.run.specs.Parts.{slotOf}
+use Rattle.run.specs.PrivatePromises.{slotOf}
 use borrow.Author.Needs.{needs}
 use Rattle.run.proofs.lines.slot.Statement.{statement}
 use Rattle.run.proofs.lines.slot.Tie as tie
@@ -9,12 +9,16 @@ returns : tie.Need-returns
 unfolding slotOf
 returns c = search (needs, conds)
 
-cast-result : tie.Need-cast-result
-cast-result c = search needs
-
 returns-2 : tie.Need-returns-2
 unfolding slotOf
 returns-2 c = search (needs, conds)
 
+cast-result : tie.Need-cast-result
+cast-result c = search needs
+
+returns-3 : tie.Need-returns-3
+unfolding slotOf
+returns-3 c = search (needs, conds)
+
 pub slot-spec : {M : Type 1} → statement M
-slot-spec = tie.close (tie.spec returns cast-result returns-2)
+slot-spec = tie.close (tie.spec returns returns-2 cast-result returns-3)

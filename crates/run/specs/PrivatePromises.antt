@@ -1,4 +1,5 @@
--- What the run's private functions promise; no public promise rests on it.
+-- What the run's private functions promise of a block filled in part, of a record's place and of the texts they put; no public promise rests on
+-- it. Rests on Pieces.
 use mathlib.Core.Bool.{cond}
 use mathlib.Core.List.{List, [], _++_}
 use mathlib.Core.Path.{_≡_}
@@ -6,6 +7,7 @@ use Prim.Native.Nat.{ℕ, _-_, _<_}
 use lib.Dec.{leb}
 use lib.ListN.{length}
 use Rattle.record.specs.declared.Outcome.the-variants as outcome
+use Rattle.table.specs.Words.{Memory, addresses≔, links≔}
 use Rattle.schedule.specs.declared.EventRead.{EventRead}
 use Rattle.schedule.specs.declared.EventRead.the-variants as read
 use Rattle.text.specs.Text.{line, keysWord}
@@ -26,12 +28,12 @@ abbrev pub LeftOff : (file : List ℕ) → (before : World) (block : List ℕ) �
 LeftOff file before block after filled count =
     Reaches (Stop World) (λ turns. fillFrom (nextPiece file) turns after filled count) (fills file before block) (length filled - count)
 
--- the filling of a block from a place on stops here, whatever the file and the deleters: the walk along the chain reads neither
+-- the filling of a block from a place on stops here, whatever the file and the rest of the memory: the walk along the chain reads addresses and links
 abbrev pub FilledOn : (addresses links : List ℕ) → (before : Run) (block : List ℕ) (from : ℕ) → (after : Run) (filled : List ℕ) (count : ℕ) → Type 0
 FilledOn addresses links before block from after filled count =
-    (file deleters : List ℕ) (turns : ℕ) → length block - from < turns →
-    stop (world addresses links deleters after) filled count ≡
-    fillFrom (nextPiece file) turns (world addresses links deleters before) block from
+    (file : List ℕ) (m : Memory) (turns : ℕ) → length block - from < turns →
+    stop (world (links≔ links (addresses≔ addresses m)) after) filled count ≡
+    fillFrom (nextPiece file) turns (world (links≔ links (addresses≔ addresses m)) before) block from
 
 -- no event and no refusal is to be put into the room that is left
 abbrev pub Ready : Phase → (room : ℕ) → Type 0
@@ -40,9 +42,9 @@ Ready Acting room = room < 64
 Ready (Walking n steps) room = Unit
 Ready Over room = Unit
 
--- a process that is not there has the first record's place, and is refused
-unfoldable pub slotOf : ℕ → ℕ
-slotOf p = cond (leb 64 p) 0 p
+-- The place of a process's record in a row of 64, by the stated number of processes. A process that is not there is refused; it has the first place.
+unfoldable pub slotOf : (processes process : ℕ) → ℕ
+slotOf processes p = cond (leb processes p) 0 (cond (leb 64 p) 0 p)
 
 -- what follows the last event: the line of a refusal that stops the run, and the first word of the last line
 unfoldable pub stoppedText : (number refusal : ℕ) → List ℕ
