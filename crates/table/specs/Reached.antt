@@ -10,7 +10,7 @@ use Rattle.record.specs.declared.Process.{Process}
 use Rattle.record.specs.declared.Address.{Address}
 use Rattle.record.specs.declared.Event.{Event}
 use Rattle.table.specs.Words.{Memory, addressAt, rank, rankOf}
-use Rattle.table.specs.Chain.{OnChain, tailAhead, ahead, chain, chainAddresses}
+use Rattle.table.specs.Chain.{OnChain, tailAhead, ahead, chain, lastOf, chainAddresses}
 use Rattle.table.specs.Events.{State, recordIn}
 use Rattle.table.specs.Demand3.{Quiet, at, AddressesFit}
 
@@ -40,11 +40,6 @@ RisesAbove height from (x ∷ l) = (from < height x) × RisesAbove height (heigh
 abbrev pub EachOnce : {A : Type 0} → List A → Type 0
 EachOnce [] = Unit {0}
 EachOnce (x ∷ l) = (List·Memᴰ x l → ⊥) × EachOnce l
-
--- where a walk from a node along a list ends
-abbrev pub lastOf : Node → List Node → Node
-lastOf from [] = from
-lastOf from (n ∷ l) = lastOf n l
 
 -- "the address of every node on the chain between head and tail, rising": `chain` lists exactly these nodes, each once, strictly rising from head
 -- on, and stops because it meets tail, in which the chain ends; `chainAddresses` lists exactly their addresses, strictly rising

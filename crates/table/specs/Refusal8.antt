@@ -4,7 +4,7 @@ use mathlib.Core.Path.{_≡_}
 use mathlib.Core.Bool.{Bool, true, false}
 use mathlib.Core.Option.{Option, none, some}
 use mathlib.Core.List.{List, [], _∷_, List·Memᴰ}
-use Prim.Native.Nat.{ℕ, _≤_, _<_}
+use Prim.Native.Nat.{_≤_, _<_}
 use Rattle.record.specs.Record.{Finds, noNode, NoAnswer, Fail}
 use Rattle.record.specs.declared.Record.{Record}
 use Rattle.table.specs.Words.{Memory, linkAt, isMarked, inUse, below}

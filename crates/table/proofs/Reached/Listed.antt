@@ -4,8 +4,8 @@ use mathlib.Core.List.{map, List·Memᴰ, List·Memᴰ·head, List·Memᴰ·tail
 use Rattle.table.proofs.Common.{_≡_, refl, sym, ap, _≢_, inl, inr, List, [], _∷_, ℕ, zero, suc, _+_, _≤_, _<_, arith, ℕ-discrete}
 use Rattle.table.proofs.Common.{node, address, Node, Address, Memory, aboveAll, rank}
 use Rattle.table.specs.Words.{addressAt, rankOf}
-use Rattle.table.specs.Chain.{tailAhead, ahead, walk, chain, chainAddresses}
-use Rattle.table.specs.Reached.{Between, RisesAbove, EachOnce, lastOf, ChainListed}
+use Rattle.table.specs.Chain.{lastOf, tailAhead, ahead, walk, chain, chainAddresses}
+use Rattle.table.specs.Reached.{Between, RisesAbove, EachOnce, ChainListed}
 use Rattle.table.proofs.Laws.Lists.{mapped-from, mapped}
 use Rattle.table.proofs.Laws.Reaching.{Along, origin, further, front}
 use Rattle.table.proofs.Laws.Numbered.{rankIn, followsIn, On, on-number, on-node, rank-inner, rank-head}
