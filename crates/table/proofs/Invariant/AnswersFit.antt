@@ -19,8 +19,8 @@ use Rattle.table.proofs.Invariant.RunInvariant.{next-is, Becomes, recor
 
 module _ (m : Memory) (p : ℕ) (R : Record) (ok : inRange R ≡ true) where
   -- on to a place before 18
-  goes : (place : ℕ) → leb place 17 ≡ true → AnswersFit place (R .lost .pending) (R .kept .result)
-  goes place h = record {
+  goes-to : (place : ℕ) → leb place 17 ≡ true → AnswersFit place (R .lost .pending) (R .kept .result)
+  goes-to place h = record {
     result-fits = result-in-range R ok;
     pending-fits = pending-in-range R ok;
     at-18 = λ q. absurd (omega (arith, leb-true place 17 h));
@@ -58,34 +58,34 @@ module _ (m : Memory) (p : ℕ) (R : Record) (ok : inRange R ≡ true) where
 
   pub answers-fit-after : (l : Place) → placeOf (R .lost .place) ≡ l → AnswersFitIn (goesAt l m p R)
   unfolding row wordMet searchEnds
-  answers-fit-after p0 pl = goes 1 refl
-  answers-fit-after p1 pl = either FitsNext (isMarked (linkIn m (currIn R))) (goes 2 refl)
-      (either FitsNext (below (m .addresses) (R .lost .curr) (R .kept .address)) (goes 1 refl)
+  answers-fit-after p0 pl = goes-to 1 refl
+  answers-fit-after p1 pl = either FitsNext (isMarked (linkIn m (currIn R))) (goes-to 2 refl)
+      (either FitsNext (below (m .addresses) (R .lost .curr) (R .kept .address)) (goes-to 1 refl)
       (either FitsNext (R .lost .recovering)
-      (either Fits (eqb (currIn R) (ownIn R)) true-18 (goes 14 refl))
+      (either Fits (eqb (currIn R) (ownIn R)) true-18 (goes-to 14 refl))
       (either FitsNext (eqb (R .kept .kind) Inserts)
-      (either Fits same-address false-18 (goes 3 refl)) (either Fits same-address (goes 5 refl) false-18))))
-  answers-fit-after p2 pl = either Fits pred-still (goes 1 refl) (goes 0 refl)
-  answers-fit-after p3 pl = goes 4 refl
-  answers-fit-after p4 pl = either Fits pred-still true-18 (goes 0 refl)
-  answers-fit-after p5 pl = goes 6 refl
-  answers-fit-after p6 pl = either Fits (isMarked (linkIn m (currIn R))) (goes 8 refl) (goes 7 refl)
-  answers-fit-after p7 pl = either Fits (eqb (linkIn m (currIn R)) (plainTo (succIn R))) (goes 6 refl) (goes 6 refl)
-  answers-fit-after p8 pl = either Fits pred-still (goes 9 refl) (goes 9 refl)
-  answers-fit-after p9 pl = goes 10 refl
+      (either Fits same-address false-18 (goes-to 3 refl)) (either Fits same-address (goes-to 5 refl) false-18))))
+  answers-fit-after p2 pl = either Fits pred-still (goes-to 1 refl) (goes-to 0 refl)
+  answers-fit-after p3 pl = goes-to 4 refl
+  answers-fit-after p4 pl = either Fits pred-still true-18 (goes-to 0 refl)
+  answers-fit-after p5 pl = goes-to 6 refl
+  answers-fit-after p6 pl = either Fits (isMarked (linkIn m (currIn R))) (goes-to 8 refl) (goes-to 7 refl)
+  answers-fit-after p7 pl = either Fits (eqb (linkIn m (currIn R)) (plainTo (succIn R))) (goes-to 6 refl) (goes-to 6 refl)
+  answers-fit-after p8 pl = either Fits pred-still (goes-to 9 refl) (goes-to 9 refl)
+  answers-fit-after p9 pl = goes-to 10 refl
   answers-fit-after p10 pl = either Fits (eqb (deleterIn m (currIn R)) (p + 1)) true-18 false-18
-  answers-fit-after p11 pl = either Fits (below (m .addresses) (targetOf (linkIn m (currIn R))) (R .kept .address)) (goes 11 refl)
-      (either Fits (equal (m .addresses) (targetOf (linkIn m (currIn R))) (R .kept .address)) (goes 12 refl)
+  answers-fit-after p11 pl = either Fits (below (m .addresses) (targetOf (linkIn m (currIn R))) (R .kept .address)) (goes-to 11 refl)
+      (either Fits (equal (m .addresses) (targetOf (linkIn m (currIn R))) (R .kept .address)) (goes-to 12 refl)
       (to-19 False (omega arith) (omega arith)))
   answers-fit-after p12 pl = either Fits (isMarked (linkIn m (currIn R)))
       (to-19 False (omega arith) (omega arith)) (to-19 True (omega arith) (omega arith))
   answers-fit-after p13 pl = if-ne Fits (R .kept .result) NoAnswer
       (λ e. to-19 (R .kept .result) (omega arith) (omega (arith, result-in-range R ok)))
-      (λ e. either Fits (eqb (R .kept .kind) Inserts) (goes 0 refl)
-      (either Fits (eqb (R .kept .kind) Deletes && not (eqb (ownIn R) 0)) (goes 15 refl) fail-19))
+      (λ e. either Fits (eqb (R .kept .kind) Inserts) (goes-to 0 refl)
+      (either Fits (eqb (R .kept .kind) Deletes && not (eqb (ownIn R) 0)) (goes-to 15 refl) fail-19))
   answers-fit-after p14 pl = either Fits (isMarked (linkIn m (ownIn R))) true-18 fail-19
-  answers-fit-after p15 pl = either Fits (isMarked (linkIn m (ownIn R))) (goes 16 refl) fail-19
-  answers-fit-after p16 pl = goes 17 refl
+  answers-fit-after p15 pl = either Fits (isMarked (linkIn m (ownIn R))) (goes-to 16 refl) fail-19
+  answers-fit-after p16 pl = goes-to 17 refl
   answers-fit-after p17 pl = either Fits (eqb (deleterIn m (ownIn R)) (p + 1)) true-18 fail-19
   answers-fit-after p18 pl = record {
     result-fits = omega (arith, pending-in-range R ok, pending-18 R ok pl);
