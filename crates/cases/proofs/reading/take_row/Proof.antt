@@ -1,10 +1,10 @@
--- No more records are read than the array holds. The measure is how many are left.
-use mathlib.Core.Path.{_≡_, _∙_}
+-- No more records are read than the array holds, which a store leaves as long as it was. The measure is how many are left. Assumes nothing.
+use mathlib.Core.Path.{_≡_}
 use Prim.Native.Nat.{_≤_, _-_}
-use lib.ListN.{length, length-set}
+use lib.ListN.{length}
 use borrow.Author.Needs.{needs}
-use Rattle.tables.proofs.reading.read_row.Statement.{statement}
-use Rattle.tables.proofs.reading.read_row.Tie as tie
+use Rattle.cases.proofs.reading.take_row.Statement.{statement}
+use Rattle.cases.proofs.reading.take_row.Tie as tie
 
 abbrev Inv-loop : tie.InvT-loop
 Inv-loop input records₀ last₀ lent i₀ records last i = (length records ≡ 64) × ((lent ≤ 64) × (i ≤ lent))
@@ -24,11 +24,8 @@ cast-lent c = search needs
 loop-holds : tie.Need-loop-holds Inv-loop μ-loop
 loop-holds c = search needs
 
-read-lost-requires : tie.Need-read-lost-requires Inv-loop μ-loop
-read-lost-requires c κs = search needs
-
-read-kept-requires : tie.Need-read-kept-requires Inv-loop μ-loop
-read-kept-requires c κs = search needs
+take-record-requires : tie.Need-take-record-requires Inv-loop μ-loop
+take-record-requires c κs = search needs
 
 mul-records : tie.Need-mul-records Inv-loop μ-loop
 mul-records c = search needs
@@ -43,15 +40,13 @@ loop-less : tie.Need-loop-less Inv-loop μ-loop
 loop-less c = search needs
 
 loop-again : tie.Need-loop-again Inv-loop μ-loop
-loop-again c =
-    let turn = c .before .before .before .before .before .before .loop in
-    (length-set (turn .records) (turn .i) _ ∙ turn .inv .0, search needs)
+loop-again c = search needs
 
 returns : tie.Need-returns Inv-loop μ-loop
 returns c = search needs
 
-pub read-row-spec : {M : Type 1} → statement M
-read-row-spec =
+pub take-row-spec : {M : Type 1} → statement M
+take-row-spec =
     tie.close
     (tie.spec
     Inv-loop
@@ -60,8 +55,7 @@ read-row-spec =
     take-requires
     cast-lent
     loop-holds
-    read-lost-requires
-    read-kept-requires
+    take-record-requires
     mul-records
     array-set-from-records
     add-i

@@ -1,10 +1,10 @@
--- No more words are read than the array holds. The measure is how many are left.
+-- No more words are read than the array holds. The measure is how many are left. Assumes nothing.
 use mathlib.Core.Path.{_≡_}
 use Prim.Native.Nat.{_≤_, _-_}
 use lib.ListN.{length}
 use borrow.Author.Needs.{needs}
-use Rattle.tables.proofs.reading.read_words.Statement.{statement}
-use Rattle.tables.proofs.reading.read_words.Tie as tie
+use Rattle.cases.proofs.reading.take_words.Statement.{statement}
+use Rattle.cases.proofs.reading.take_words.Tie as tie
 
 abbrev Inv-loop : tie.InvT-loop
 Inv-loop input words₀ last₀ lent i₀ words last i = (length words ≡ 64) × ((lent ≤ 64) × (i ≤ lent))
@@ -42,8 +42,8 @@ loop-again c = search needs
 returns : tie.Need-returns Inv-loop μ-loop
 returns c = search needs
 
-pub read-words-spec : {M : Type 1} → statement M
-read-words-spec =
+pub take-words-spec : {M : Type 1} → statement M
+take-words-spec =
     tie.close
     (tie.spec
     Inv-loop
