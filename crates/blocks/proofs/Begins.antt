@@ -1,4 +1,4 @@
--- A run that begins has the whole output to come, where the lent tables hold 4,096 words each, and all of its numbers fit. Rests on Longer.
+-- A run that begins has the whole output to come, where the lent tables hold 4,096 words each, and all of its numbers fit. Rests on Longer and Comes.
 use Prim.Native.Nat.{ℕ, _+_, _-_, _≤_}
 use mathlib.Core.List.{List, _++_}
 use mathlib.Core.Path.{_≡_, refl, ap, sym, _∙_, subst}
@@ -6,17 +6,15 @@ use mathlib.Core.Bool.{true}
 use native.Mathlib.Omega.{arith}
 use lib.ListN.{length, drop, replicate, length-replicate, replicate-append-replicate}
 use Rattle.record.specs.Record.{freshRecord}
-use Rattle.basics.specs.Over.{over}
 use Rattle.record.specs.declared.Record.{Record}
 use Rattle.record.specs.declared.Outcome.the-variants as outcome
-use Rattle.table.specs.Words.{memory, freshMemory}
+use Rattle.table.specs.Words.{Memory, lengths, freshMemory}
 use Rattle.table.specs.Events.{State, stateOf, fresh, sizesFit}
 use Rattle.basics.proofs.Tests.{if, if-lt}
-use Rattle.table.proofs.Numbered.{Room}
-use Rattle.table.proofs.Fitting.{limits-of, fit-of}
-use Rattle.table.proofs.LawsSizes.{longerState}
-use Rattle.words.specs.Lent.{sizesOf}
-use Rattle.fresh.specs.Fresh.{tablesLeft, freshFits, freshTables}
+use Rattle.table.proofs.Laws.Fitting.{limits-of, LongEnough, long-for-fewer, Beyond, room-fresh, fit-of}
+use Rattle.table.proofs.Laws.Sizes.{longerState}
+use Rattle.words.specs.LentMemory.{sized, sizesOf}
+use Rattle.fresh.specs.Fresh.{TablesLeft, freshSizes, laidOver, freshFits, tablesLeft, freshTables}
 use Rattle.fresh.specs.declared.Made.{Made}
 use Rattle.fresh.specs.declared.Made.the-variants.{Fresh, Refused}
 use Rattle.numbers.specs.Numbers.{Read, got, stops, readNumber}
@@ -77,44 +75,46 @@ header-has s c =
 module _ (nodes processes : ℕ) (fit : sizesFit nodes processes ≡ true) where
   fresh-sound : Sound (fresh nodes processes)
   unfolding fresh freshMemory
-  fresh-sound =
-      let two = limits-of nodes processes fit .two in
-      let words = length-replicate {A = ℕ} nodes 0 in
-      record {
-        holds = record {
-          addresses = omega arith;
-          links = omega (arith, length-replicate {A = ℕ} (nodes - 2) 0);
-          deleters = omega arith;
-          row = omega (arith, length-replicate processes freshRecord);
-        };
-        within = (omega arith, omega arith);
-      }
+  fresh-sound = record {
+    room = room-fresh nodes processes (limits-of nodes processes fit .two);
+    row = omega (arith, length-replicate processes freshRecord);
+  }
 
-  fits-long : (a l d : List ℕ) → 4096 ≤ length a → 4096 ≤ length l → 4096 ≤ length d → freshFits a l d nodes processes ≡ true
-  unfolding fresh freshMemory
-  fits-long a l d ha hl hd =
+  -- tables of 4,096 words are long enough
+  fits-long : (m : Memory) → LongEnough 4096 (lengths m) → freshFits (sized (freshSizes nodes processes) m) ≡ true
+  unfolding freshMemory lengths
+  fits-long m long =
       let k = limits-of nodes processes fit in
-      let room : Room nodes (memory a l d 2) =
-      record { addresses = omega arith; links = omega arith; deleters = omega arith; least = omega arith; most = omega arith } in
-      fit-of nodes processes (memory a l d 2) fit room
+      fit-of (sized (freshSizes nodes processes) m) fit
+      (record { long = long-for-fewer nodes 4096 (lengths m) (k .few) long; least = omega arith; most = k .two })
 
 -- ---- the numbers
 
 -- every number fits: a file has at most 255 events for each of its 65,536 bytes
-start-numbered : (s a l d : List ℕ) (next : Cursor) (made : Made) → length s ≤ 65536 → next .left ≡ 0 → Numbered s (world a l d (startOf next made))
+start-numbered : (s : List ℕ) (m : Memory) (next : Cursor) (made : Made) → length s ≤ 65536 → next .left ≡ 0 → Numbered s (world m (startOf next made))
 unfolding startOf
-start-numbered s a l d next (Fresh sizes) short none z = omega (arith, comes-few s next)
-start-numbered s a l d next (Refused n) short none z = omega (arith, acts _ z)
+start-numbered s m next (Fresh sizes) short none z = omega (arith, comes-few s next)
+start-numbered s m next (Refused n) short none z = omega (arith, acts _ z)
 
-pub begin-numbered : (s a l d : List ℕ) → Numbered s (begins s a l d)
-begin-numbered s a l d = by (headerAt s start) refl (header-has s start)
-  where
-    by : (r : HeaderRead) → headerAt s start ≡ r → HeaderHas s r → Numbered s (begins s a l d)
-    by (header.Got h next) e has =
-        subst (Numbered s) (begin-got s a l d h next _ _ e refl refl)
-        (let x = freshTables a l d (h .nodes) (h .processes) in
-        start-numbered s (x .addresses) (x .links) (x .deleters) next (x .answer) (has .0) (has .1))
-    by (header.Refused n) e has = subst (Numbered s) (begin-refused s a l d n _ e refl) (λ z. omega (arith, acts _ z))
+-- a run begun, by the header read
+module _ (s : List ℕ) (m : Memory) where
+  abbrev madeFor : Header → TablesLeft
+  madeFor h = freshTables (sized (freshSizes (h .nodes) (h .processes)) m)
+
+  begun-got : (h : Header) (next : Cursor) → headerAt s start ≡ header.Got h next
+      → world (madeFor h .memory) (startOf next (madeFor h .answer)) ≡ begins s m
+  begun-got h next e = begin-got s m (headerAt s start) _ refl (madeFor h .memory) h next (madeFor h .answer) e refl refl
+
+  begun-refused : (n : ℕ) → headerAt s start ≡ header.Refused n → world m (refusing n) ≡ begins s m
+  begun-refused n e = begin-refused s m (headerAt s start) (refusing n) refl n e refl
+
+  pub begin-numbered : Numbered s (begins s m)
+  begin-numbered = by (headerAt s start) refl (header-has s start)
+    where
+      by : (r : HeaderRead) → headerAt s start ≡ r → HeaderHas s r → Numbered s (begins s m)
+      by (header.Got h next) e has =
+          subst (Numbered s) (begun-got h next e) (start-numbered s (madeFor h .memory) next (madeFor h .answer) (has .0) (has .1))
+      by (header.Refused n) e has = subst (Numbered s) (begun-refused n e) (λ z. omega (arith, acts _ z))
 
 -- ---- the whole output is to come
 
@@ -127,49 +127,62 @@ pub output-file : (s : List ℕ) (h : Header) (x : Reading) → readFile s ≡ f
 unfolding output
 output-file s h x e = rw (e, output)
 
-module _ (s a l d : List ℕ) (ha : 4096 ≤ length a) (hl : 4096 ≤ length l) (hd : 4096 ≤ length d) (h : Header) (next : Cursor)
+-- the words of a lent memory past the ends of a new one
+abbrev past : (new lent : Memory) → Beyond
+past new lent = record {
+  addresses = drop (length (new .addresses)) (lent .addresses);
+  links = drop (length (new .links)) (lent .links);
+  deleters = drop (length (new .deleters)) (lent .deleters);
+}
+
+module _ (s : List ℕ) (m : Memory) (long : LongEnough 4096 (lengths m)) (h : Header) (next : Cursor)
     (fit : sizesFit (h .nodes) (h .processes) ≡ true) where
   abbrev σ : State
   σ = fresh (h .nodes) (h .processes)
 
+  abbrev new : Memory
+  new = freshMemory (h .nodes) (h .processes)
+
   abbrev begun : World
-  begun =
-      world (over (σ .memory .addresses) a) (over (σ .memory .links) l) (over (σ .memory .deleters) d)
-      (runOf Acting next (sizesOf σ) 0 freshRow)
+  begun = world (laidOver new m) (runOf Acting next (sizesOf new) 0 freshRow)
 
-  made-fresh : freshTables a l d (h .nodes) (h .processes) ≡ tablesLeft (begun .addresses) (begun .links) (begun .deleters) (Fresh (sizesOf σ))
+  made-fresh : madeFor s m h ≡ tablesLeft (begun .memory) (Fresh (sizesOf new))
   unfolding freshTables
-  made-fresh = rw (fits-long (h .nodes) (h .processes) fit a l d ha hl hd)
+  made-fresh = rw (fits-long (h .nodes) (h .processes) fit m long)
 
-  begins-fresh : headerAt s start ≡ header.Got h next → begins s a l d ≡ begun
+  begins-fresh : headerAt s start ≡ header.Got h next → begins s m ≡ begun
   unfolding startOf
-  begins-fresh e = sym (begin-got s a l d h next _ _ e (sym made-fresh) refl)
+  begins-fresh e = sym (begun-got s m h next e) ∙ ap (λ (x : TablesLeft). world (x .memory) (startOf next (x .answer))) made-fresh
 
-  row-longer : freshRow ≡ σ .row ++ replicate (64 - h .processes) freshRecord
+  abbrev spare : List Record
+  spare = replicate (64 - h .processes) freshRecord
+
+  row-longer : freshRow ≡ σ .row ++ spare
   unfolding fresh
   row-longer =
       let all : h .processes + (64 - h .processes) ≡ 64 = omega (arith, limits-of (h .nodes) (h .processes) fit .few-processes) in
       rw (replicate-append-replicate, all)
 
-  table-longer : tableOf begun
-      ≡ longerState (drop (length (σ .memory .addresses)) a) (drop (length (σ .memory .links)) l) (drop (length (σ .memory .deleters)) d)
-      (replicate (64 - h .processes) freshRecord) σ
-  table-longer = ap (λ (row : List Record). stateOf (σ .nodes) (σ .processes) (tableOf begun .memory) row) row-longer
+  table-longer : tableOf begun ≡ longerState (past new m) spare σ
+  unfolding fresh
+  table-longer = ap (λ (row : List Record). stateOf (tableOf begun .memory) row) row-longer
 
   come-fresh : toCome s begun ≡ played 0 σ (comes s next) (ends s next)
   unfolding toCome
   come-fresh =
       ap (λ (τ : State). played 0 τ (comes s next) (ends s next)) table-longer
-      ∙ played-longer _ _ _ _ 0 σ (comes s next) (ends s next) (fresh-sound (h .nodes) (h .processes) fit)
+      ∙ played-longer (past new m) spare 0 σ (comes s next) (ends s next) (fresh-sound (h .nodes) (h .processes) fit)
 
-pub begin-comes : (s a l d : List ℕ) → 4096 ≤ length a → 4096 ≤ length l → 4096 ≤ length d → toCome s (begins s a l d) ≡ output s
-begin-comes s a l d ha hl hd = by (headerAt s start) refl (header-has s start) (header-tells s start refl)
+pub begin-comes : (s : List ℕ) (m : Memory) → LongEnough 4096 (lengths m) → toCome s (begins s m) ≡ output s
+begin-comes s m long = by (headerAt s start) refl (header-has s start) (header-tells s start refl)
   where
-    by : (r : HeaderRead) → headerAt s start ≡ r → HeaderHas s r → HeaderAnswer (readFile s) s r → toCome s (begins s a l d) ≡ output s
+    by : (r : HeaderRead) → headerAt s start ≡ r → HeaderHas s r → HeaderAnswer (readFile s) s r → toCome s (begins s m) ≡ output s
     by (header.Got h next) e has t =
-        ap (toCome s) (begins-fresh s a l d ha hl hd h next (has .2) e)
-        ∙ (come-fresh s a l d ha hl hd h next (has .2)
-        ∙ ((λ i. played 0 (fresh (h .nodes) (h .processes)) (t .2 i) (t .3 i)) ∙ sym (output-file s h (t .0) (t .1))))
+        ap (toCome s) (begins-fresh s m long h next (has .2) e)
+        ∙ come-fresh s m long h next (has .2)
+        ∙ (λ i. played 0 (fresh (h .nodes) (h .processes)) (t .2 i) (t .3 i))
+        ∙ sym (output-file s h (t .0) (t .1))
     by (header.Refused n) e has t =
-        ap (toCome s) (sym (begin-refused s a l d n _ e refl))
-        ∙ (come-refusing s (world a l d (refusing n)) n refl ∙ sym (output-bad s n (t .0)))
+        ap (toCome s) (sym (begun-refused s m n e))
+        ∙ come-refusing s (world m (refusing n)) n refl
+        ∙ sym (output-bad s n (t .0))

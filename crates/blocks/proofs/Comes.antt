@@ -2,7 +2,6 @@
 use Prim.Native.Nat.{ℕ, zero, suc, _+_, _-_, _<_, _≤_}
 use mathlib.Core.List.{List, [], _∷_, _++_, map, append-assoc, append-nil}
 use mathlib.Core.Path.{_≡_, refl, ap, sym, _∙_, subst}
-use mathlib.Core.Bool.{Bool, true, false, cond}
 use mathlib.Core.Logic.{inl, inr}
 use native.Mathlib.Omega.{arith}
 use borrow.Author.Tests.{lt-ltb, ne-eqb}
@@ -10,13 +9,16 @@ use lib.ListN.{length, length-append}
 use denote.Enum.Declared.{tagOf}
 use Rattle.record.specs.Record.{address}
 use Rattle.record.specs.declared.Node.{Node}
+use Rattle.record.specs.declared.Address.{Address}
 use Rattle.record.specs.declared.Event.{Event}
 use Rattle.record.specs.declared.Outcome.the-variants as outcome
-use Rattle.table.specs.Words.{addressAt, linkAt, targetOf}
-use Rattle.table.specs.Chain.{goesOn, walk, chain, chainAddresses}
+use Rattle.table.specs.Words.{addressAt}
+use Rattle.table.specs.Chain.{walk, chain, chainAddresses}
 use Rattle.table.specs.Events.{State, event, runs, outcomes}
 use Rattle.chain.specs.Walking.{walkedFrom}
+use Rattle.chain.specs.declared.Walked.{Walked}
 use Rattle.chain.specs.declared.Walked.the-variants.{Onto, Ends}
+use Rattle.chain.proofs.Walks.{walk-by-steps}
 use Rattle.schedule.specs.declared.EventRead.{EventRead}
 use Rattle.schedule.specs.declared.EventRead.the-variants as read
 use Rattle.schedule.specs.Cursors.{eventAt}
@@ -29,7 +31,7 @@ use Rattle.run.specs.declared.Phase.the-variants.{Refusing, Acting, Walking, Ov
 use Rattle.run.specs.Output.{lines, stopLine, played}
 use Rattle.run.specs.Filling.{Next, piece, nothing}
 use Rattle.run.specs.Pieces.{World, memoryOf, tableOf, inPhase, nextNumber, wentOn, toWalk, eventNext, addressNext, nextPiece}
-use Rattle.run.specs.Parts.{stoppedText, lastText}
+use Rattle.run.specs.PrivatePromises.{stoppedText, lastText}
 use Rattle.run.proofs.Phase as phase-type
 use Rattle.run.proofs.Steps.{acting-piece, got-piece, last-next, refusal-piece, over-nothing, walking-piece, gaveBy}
 use Rattle.blocks.specs.ToCome.{toCome}
@@ -60,7 +62,7 @@ unfolding toCome
 come-acting file w e = rw e
 
 come-walking : (file : List ℕ) (w : World) (n : Node) (steps : ℕ) → w .run .phase ≡ Walking n steps
-    → toCome file w ≡ addressesText (map (λ n. addressAt (memoryOf w) n) (walk steps (memoryOf w) n)) ++ (newline ∷ [])
+    → toCome file w ≡ addressesText (map (λ n. address (addressAt (memoryOf w) n)) (walk steps (memoryOf w) n)) ++ (newline ∷ [])
 unfolding toCome
 come-walking file w n steps e = rw e
 
@@ -127,21 +129,25 @@ module _ (file : List ℕ) (w : World) (acting : w .run .phase ≡ Acting) (numb
 -- ---- the last line
 
 module _ (file : List ℕ) (w : World) where
-  abbrev text : List Node → List ℕ
-  text nodes = addressesText (map (λ n. addressAt (memoryOf w) n) nodes) ++ (newline ∷ [])
+  abbrev text : List Address → List ℕ
+  text addresses = addressesText addresses ++ (newline ∷ [])
 
-  walks : (n : Node) (steps : ℕ) → Told file (text (walk steps (memoryOf w) n)) (addressNext w n steps)
-  unfolding addressNext walkedFrom walk toCome addressesText
+  abbrev addresses : List Node → List Address
+  addresses nodes = map (λ n. address (addressAt (memoryOf w) n)) nodes
+
+  -- by what a step of the walk gave
+  walks-by : (steps : ℕ) (x : Walked)
+      → Told file (text (elim x [ Onto n a ↦ a ∷ addresses (walk steps (memoryOf w) n) | Ends ↦ [] ])) (gaveBy w steps x)
+  unfolding toCome addressesText
+  walks-by steps (Onto n a) = ((λ z. omega (arith, acts _ z)), append-assoc (space ∷ decimal (a .0)) _ (newline ∷ []), omega arith)
+  walks-by steps Ends = ((λ z. omega (arith, acts _ z)), refl, omega arith)
+
+  walks : (n : Node) (steps : ℕ) → Told file (text (addresses (walk steps (memoryOf w) n))) (addressNext w n steps)
+  unfolding addressNext walk toCome addressesText
   walks n zero = ((λ z. omega (arith, acts _ z)), refl, omega arith)
-  walks n (suc steps) = by (goesOn (memoryOf w) n (targetOf (linkAt (memoryOf w) n)))
-    where
-      onto : Node
-      onto = targetOf (linkAt (memoryOf w) n)
-
-      by : (goes : Bool) → Told file (text (elim goes [ true ↦ onto ∷ walk steps (memoryOf w) onto | false ↦ [] ]))
-          (gaveBy w steps (cond goes (Onto onto (address (addressAt (memoryOf w) onto))) Ends))
-      by true = ((λ z. omega (arith, acts _ z)), append-assoc (space ∷ decimal (addressAt (memoryOf w) onto)) _ (newline ∷ []), omega arith)
-      by false = ((λ z. omega (arith, acts _ z)), refl, omega arith)
+  walks n (suc steps) =
+      subst (λ rest. Told file (text rest) (gaveBy w steps (walkedFrom (memoryOf w) n))) (sym (walk-by-steps (memoryOf w) n steps))
+      (walks-by steps (walkedFrom (memoryOf w) n))
 
 -- ---- every phase
 

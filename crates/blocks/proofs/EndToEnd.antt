@@ -1,17 +1,18 @@
 -- Demand 2 for a whole file: the lines are those of the events that its bytes encode, worked in order from fresh tables by the place table; and so
 -- are the blocks that the code fills. Rests on Theorem and on the files' laws.
 use Prim.Native.Nat.{ℕ, _≤_}
+use mathlib.Core.Bool.{true}
 use mathlib.Core.List.{List, []}
 use mathlib.Core.Path.{_≡_, _∙_}
 use lib.ListN.{length}
-use Rattle.table.specs.Events.{fresh}
+use Rattle.table.specs.Words.{Memory, lengths}
+use Rattle.table.specs.Events.{longEnough, fresh}
 use Rattle.schedule.specs.declared.Header.{Header}
 use Rattle.schedule.specs.Encoding.{Item, eventsOf}
 use Rattle.schedule.specs.Reading.{Reading, reading, file}
 use Rattle.files.specs.Stands.{Encodes, Holds}
 use Rattle.files.proofs.Files.{says-read}
 use Rattle.files.proofs.Accepted.{encoding-read}
-use Rattle.text.specs.Text.{line}
 use Rattle.run.specs.Output.{played, output}
 use Rattle.run.specs.Pieces.{begins}
 use Rattle.blocks.specs.ToCome.{written}
@@ -29,9 +30,7 @@ pub lines-of-file : (s : List ℕ) (h : Header) (x : Reading) → Holds s h x
 lines-of-file s h x holds = output-file s h x (says-read s (file h x) holds)
 
 -- the blocks that the code fills are these lines
-pub blocks-of-file : (s : List ℕ) (h : Header) (x : Reading) → Holds s h x
-    → (addresses links deleters : List ℕ) → 4096 ≤ length addresses → 4096 ≤ length links → 4096 ≤ length deleters
+pub blocks-of-file : (s : List ℕ) (h : Header) (x : Reading) → Holds s h x → (m : Memory) → longEnough 4096 (lengths m) ≡ true
     → (blocks : ℕ → List ℕ) → ((i : ℕ) → 64 ≤ length (blocks i)) → (turns : ℕ) → length (output s) ≤ turns
-    → written turns s blocks (begins s addresses links deleters) ≡ played 0 (fresh (h .nodes) (h .processes)) (eventsOf (x .items)) (x .ended)
-blocks-of-file s h x holds a l d ha hl hd blocks room turns enough =
-    blocks-are-output s a l d ha hl hd blocks room turns enough ∙ lines-of-file s h x holds
+    → written turns s blocks (begins s m) ≡ played 0 (fresh (h .nodes) (h .processes)) (eventsOf (x .items)) (x .ended)
+blocks-of-file s h x holds m long blocks room turns enough = blocks-are-output s m long blocks room turns enough ∙ lines-of-file s h x holds

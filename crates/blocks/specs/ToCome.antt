@@ -2,6 +2,7 @@
 use mathlib.Core.List.{List, [], _∷_, _++_, map}
 use Prim.Native.Nat.{ℕ, zero, suc, _+_}
 use lib.ListN.{take}
+use Rattle.record.specs.Record.{address}
 use Rattle.record.specs.declared.Outcome.the-variants.{Refused}
 use Rattle.table.specs.Words.{addressAt}
 use Rattle.table.specs.Chain.{walk}
@@ -17,7 +18,7 @@ toCome file w =
     elim (w .run .phase) [
       | Refusing n ↦ line 0 (Refused n)
       | Acting ↦ played (w .run .number) (tableOf w) (comes file (w .run .cursor)) (ends file (w .run .cursor))
-      | Walking n steps ↦ addressesText (map (λ n. addressAt (memoryOf w) n) (walk steps (memoryOf w) n)) ++ (newline ∷ [])
+      | Walking n steps ↦ addressesText (map (λ n. address (addressAt (memoryOf w) n)) (walk steps (memoryOf w) n)) ++ (newline ∷ [])
       | Over ↦ []
     ]
 

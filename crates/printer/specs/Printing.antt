@@ -5,6 +5,7 @@ use mathlib.Core.Bool.{Bool, true}
 use mathlib.Core.List.{List}
 use Prim.Native.Nat.{ℕ, _≤_}
 use lib.ListN.{length}
+use Rattle.table.specs.Words.{Memory}
 use Rattle.run.specs.declared.Run.{Run}
 use Rattle.run.specs.Pieces.{World, world, fills}
 use Rattle.blocks.specs.ToCome.{toCome}
@@ -14,8 +15,8 @@ pub data Reached (file : List ℕ) (start : World) : World → Type 0 where
   begun : {w : World} → start ≡ w → Reached file start w
   onward : {w v : World} (block : List ℕ) → Reached file start w → fills file w block .state ≡ v → Reached file start v
 
--- the tables are those of the run after some of its blocks; where all was written and a block holds 64 bytes or more, nothing is to come
-pub record Printed (file : List ℕ) (start : World) (room : ℕ) (addresses links deleters : List ℕ) (all : Bool) : Type 0 where
+-- the tables of a memory are those of the run after some of its blocks; where all was written and a block holds 64 bytes or more, nothing is to come
+pub record Printed (file : List ℕ) (start : World) (room : ℕ) (m : Memory) (all : Bool) : Type 0 where
   pub run : Run
-  pub reached : Reached file start (world addresses links deleters run)
-  pub whole : all ≡ true → 64 ≤ room → length (toCome file (world addresses links deleters run)) ≡ 0
+  pub reached : Reached file start (world m run)
+  pub whole : all ≡ true → 64 ≤ room → length (toCome file (world m run)) ≡ 0

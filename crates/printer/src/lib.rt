@@ -1,6 +1,7 @@
 // Prints a run: the blocks of its output, one after the other, to standard output. Rests on the run.
 ghost use lib.ListN.{length};
-ghost use Rattle.run.specs.Pieces.{begins};
+ghost use Rattle.words.specs.LentMemory.{lentMemory};
+ghost use Rattle.run.specs.Pieces.{unstated, begins};
 ghost use Rattle.printer.specs.Printing.{Printed};
 use run::begin;
 use run::fill;
@@ -14,8 +15,8 @@ pub fn print_output(
     block: &mut [u8],
 ) -> bool
     ensures { λ r. ⌜ Printed (now (file .entry))
-        (begins (now (file .entry)) (now (addresses .entry)) (now (links .entry)) (now (deleters .entry))) (length (now (block .entry)))
-        (now (addresses .exit)) (now (links .exit)) (now (deleters .exit)) r ⌝ }
+        (begins (now (file .entry)) (lentMemory (now (addresses .entry)) (now (links .entry)) (now (deleters .entry)) unstated))
+        (length (now (block .entry))) (lentMemory (now (addresses .exit)) (now (links .exit)) (now (deleters .exit)) unstated) r ⌝ }
 {
     let mut run = begin(file, addresses, links, deleters);
     loop {

@@ -2,8 +2,8 @@
 use mathlib.Core.Path.{_≡_}
 use lib.ListN.{length}
 use borrow.Author.Needs.{needs}
-use Rattle.schedules.proofs.drop_bytes.Statement.{statement}
-use Rattle.schedules.proofs.drop_bytes.Tie as tie
+use Rattle.corpus.proofs.drop_bytes.Statement.{statement}
+use Rattle.corpus.proofs.drop_bytes.Tie as tie
 
 abbrev Inv-loop : tie.InvT-loop
 Inv-loop space₀ count left₀ space left = length space ≡ length space₀

@@ -4,11 +4,11 @@ use Prim.Native.Nat.{ℕ}
 use lib.ListN.{length}
 use lib.Seq.{length-take-le}
 use borrow.Author.Needs.{needs}
-use Rattle.schedules.proofs.main.Statement.{statement}
-use Rattle.schedules.proofs.main.Tie as tie
+use Rattle.corpus.proofs.main.Statement.{statement}
+use Rattle.corpus.proofs.main.Tie as tie
 
 -- what the loop keeps
-record Lengths (groups file addresses links deleters block : ℕ) : Type 0 where
+record ArraysKept (groups file addresses links deleters block : ℕ) : Type 0 where
   groups-are : groups ≡ 5
   file-is : file ≡ 65537
   addresses-are : addresses ≡ 4096
@@ -18,7 +18,7 @@ record Lengths (groups file addresses links deleters block : ℕ) : Type 0 where
 
 abbrev Inv-loop : tie.InvT-loop
 Inv-loop groups₀ file₀ addresses₀ links₀ deleters₀ block₀ left₀ groups file addresses links deleters block left =
-    Lengths (length groups) (length file) (length addresses) (length links) (length deleters) (length block)
+    ArraysKept (length groups) (length file) (length addresses) (length links) (length deleters) (length block)
 
 abbrev μ-loop : tie.MeasureT-loop
 μ-loop groups₀ file₀ addresses₀ links₀ deleters₀ block₀ left₀ groups file addresses links deleters block left = left

@@ -3,8 +3,8 @@ use mathlib.Core.Path.{_≡_}
 use Prim.Native.Nat.{_-_, _≤_}
 use lib.ListN.{length}
 use borrow.Author.Needs.{needs}
-use Rattle.schedules.proofs.read_groups.Statement.{statement}
-use Rattle.schedules.proofs.read_groups.Tie as tie
+use Rattle.corpus.proofs.read_groups.Statement.{statement}
+use Rattle.corpus.proofs.read_groups.Tie as tie
 
 abbrev Inv-loop : tie.InvT-loop
 Inv-loop groups₀ n₀ groups n = (n ≤ length groups) × (length groups ≡ length groups₀)

@@ -1,72 +1,80 @@
--- What is to come falls with each block that got bytes.
-use Prim.Native.Nat.{ℕ, _<_}
+-- What is to come falls with each block that got bytes. Rests on Prints and on the blocks' laws.
+use Prim.Native.Nat.{ℕ}
 use mathlib.Core.Path.{_≡_, refl, sym, _∙_, ap, subst}
 use native.Mathlib.Omega.{arith}
 use lib.ListN.{length}
 use lib.Seq.{length-take-le}
 use borrow.Author.Needs.{needs}
+use Rattle.words.specs.LentMemory.{lentMemory}
 use Rattle.run.specs.Filling.{Stop}
 use Rattle.run.specs.Pieces.{World, world}
-use Rattle.printer.specs.Printing.{Reached, begun, onward}
-use Rattle.printer.proofs.Prints.{stopped, ended}
+use Rattle.run.proofs.TablesKept.{TablesKept, kept, kept-on}
 use Rattle.blocks.specs.ToCome.{toCome}
 use Rattle.blocks.proofs.Comes.{Numbered}
 use Rattle.blocks.proofs.Begins.{begin-numbered}
 use Rattle.blocks.proofs.Blocks.{falls}
+use Rattle.printer.specs.Printing.{Reached, begun, onward}
+use Rattle.printer.proofs.Prints.{stopped, ended}
 use Rattle.printer.proofs.print_output.Statement.{statement}
 use Rattle.printer.proofs.print_output.Tie as tie
 
 -- what the loop keeps
-record Prints (addresses addresses₀ links links₀ deleters deleters₀ block block₀ : ℕ) (N R : Type 0) : Type 0 where
-  addresses-are : addresses ≡ addresses₀
-  links-are : links ≡ links₀
-  deleters-are : deleters ≡ deleters₀
+record Prints (T : Type 0) (block block₀ : ℕ) (N R : Type 0) : Type 0 where
+  tables : T
   block-is : block ≡ block₀
   numbered : N
   reached : R
 
 abbrev Inv-loop : tie.InvT-loop
 Inv-loop file addresses₀ links₀ deleters₀ block₀ run₀ addresses links deleters block run =
-    Prints (length addresses) (length addresses₀) (length links) (length links₀) (length deleters) (length deleters₀) (length block) (length block₀)
-    (Numbered file (world addresses links deleters run))
-    (Reached file (world addresses₀ links₀ deleters₀ run₀) (world addresses links deleters run))
+    let m₀ = lentMemory addresses₀ links₀ deleters₀ (run₀ .sizes) in
+    let m = lentMemory addresses links deleters (run .sizes) in
+    Prints (TablesKept m₀ m) (length block) (length block₀) (Numbered file (world m run)) (Reached file (world m₀ run₀) (world m run))
 
 abbrev μ-loop : tie.MeasureT-loop
-μ-loop file addresses₀ links₀ deleters₀ block₀ run₀ addresses links deleters block run = length (toCome file (world addresses links deleters run))
+μ-loop file addresses₀ links₀ deleters₀ block₀ run₀ addresses links deleters block run =
+    length (toCome file (world (lentMemory addresses links deleters (run .sizes)) run))
 
--- back from where a block is filled: to what filled it, to the loop, to the run begun, and to the start
+-- ---- where the facts stand
+
+-- back from the loop to the run begun
+abbrev started : tie.After-slice-known7 Inv-loop μ-loop → tie.After-begin Inv-loop μ-loop
+started c =
+    let links = c .before .before .before in
+    let addresses = links .before .before in
+    addresses .before
+
+-- back from a block's length to what filled it, and to the loop
 abbrev filled : tie.After-slice-known11 Inv-loop μ-loop → tie.After-fill Inv-loop μ-loop
-filled c = c .before .before .before .before .before .before .before .before
+filled c =
+    let deleters = c .before .before .before in
+    let links = deleters .before .before in
+    let addresses = links .before .before in
+    addresses .before
 
 abbrev looped : tie.After-fill Inv-loop μ-loop → tie.At-loop Inv-loop μ-loop
-looped c = c .before .before .before .before .before
+looped c = let addresses = c .before .before .before in addresses .before .before
 
-abbrev begins : tie.At-loop Inv-loop μ-loop → tie.After-begin Inv-loop μ-loop
-begins c = c .before .before .before .before .before .before .before
-
-abbrev started : tie.After-begin Inv-loop μ-loop → tie.Start Inv-loop μ-loop
-started c = c .before .before .before .before .before .before .before .before .before
+-- back from what was written to a block that got bytes
+abbrev got-bytes : tie.After-write-all Inv-loop μ-loop → tie.Else1 Inv-loop μ-loop
+got-bytes c = c .before .before .before
 
 -- where the run stands at the loop
 abbrev standing : tie.At-loop Inv-loop μ-loop → World
-standing c = let l = c .loop in world (l .addresses) (l .links) (l .deleters) (l .run)
+standing c = let l = c .loop in world (lentMemory (l .addresses) (l .links) (l .deleters) (l .run .sizes)) (l .run)
+
+-- ---- the needs
 
 begin-requires : tie.Need-begin-requires Inv-loop μ-loop
 begin-requires c κs = search needs
 
 loop-holds : tie.Need-loop-holds Inv-loop μ-loop
-loop-holds c =
-    let b = c .before .before .before .before .before .before in
-    let a = started b .args in
-    record {
-      addresses-are = refl;
-      links-are = refl;
-      deleters-are = refl;
-      block-is = refl;
-      numbered = subst (Numbered (a .file .now)) (sym (b .begin .ensures))
-          (begin-numbered (a .file .now) (a .addresses .now) (a .links .now) (a .deleters .now));
-      reached = begun refl;
-    }
+loop-holds c = record {
+  tables = kept _;
+  block-is = refl;
+  numbered = subst (Numbered _) (sym (started c .begin .ensures)) (begin-numbered _ _);
+  reached = begun refl;
+}
 
 fill-requires : tie.Need-fill-requires Inv-loop μ-loop
 fill-requires c κs = search needs
@@ -85,11 +93,11 @@ same-length-4 c = search needs
 
 returns : tie.Need-returns Inv-loop μ-loop
 returns c =
-    let f = filled (c .before) in
-    let o = looped f in
-    let l = o .loop in
-    ended (standing o) (l .block) (begins o .begin .ensures) (f .fill .ensures .0) (l .inv .reached) (l .inv .numbered) (c .if1 .taken)
-    (l .inv .block-is)
+    let fill = filled (c .before) in
+    let at-loop = looped fill in
+    let l = at-loop .loop in
+    ended _ (standing at-loop) (l .block) (started (at-loop .before) .begin .ensures) (fill .fill .ensures .0) (l .inv .reached) (l .inv .numbered)
+    (c .if1 .taken) (l .inv .block-is)
 
 slice-reshare-prefix-write-all : tie.Need-slice-reshare-prefix-write-all Inv-loop μ-loop
 slice-reshare-prefix-write-all c = search needs
@@ -114,36 +122,29 @@ same-length-8 c = search needs
 
 returns-2 : tie.Need-returns-2 Inv-loop μ-loop
 returns-2 c =
-    let f = filled (c .before .before .before .before .before) in
-    let o = looped f in
-    stopped (standing o) (o .loop .block) (begins o .begin .ensures) (f .fill .ensures .0) (o .loop .inv .reached)
+    let fill = filled (got-bytes (c .before) .before) in
+    let at-loop = looped fill in
+    let l = at-loop .loop in
+    stopped _ (standing at-loop) (l .block) (started (at-loop .before) .begin .ensures) (fill .fill .ensures .0) (l .inv .reached)
 
--- a block that got bytes: the numbers to come fit still, and less is to come
-got-bytes : (c : tie.Else1 Inv-loop μ-loop) →
-    let o = filled (c .before) in
-    let f = o .fill in
-    let file = started (begins (looped o)) .args .file .now in
-    let w = world (f .last .1 .0) (f .last .1 .1 .0) (f .last .1 .1 .1 .0) (f .result .run) in
-    Numbered file w × (length (toCome file w) < length (toCome file (standing (looped o))))
-got-bytes c =
-    let o = filled (c .before) in
-    let l = looped o .loop in
-    falls _ (standing (looped o)) (l .block) _ (o .fill .ensures .0) (l .inv .numbered) (omega (arith, c .if1 .left))
-
+-- less is to come
 loop-less : tie.Need-loop-less Inv-loop μ-loop
-loop-less c = got-bytes (c .before .before .before .before) .1
+loop-less c =
+    let got = got-bytes (c .before) in
+    let fill = filled (got .before) in
+    let l = looped fill .loop in
+    falls _ (standing (looped fill)) (l .block) _ (fill .fill .ensures .0) (l .inv .numbered) (omega (arith, got .if1 .left)) .1
 
 loop-again : tie.Need-loop-again Inv-loop μ-loop
 loop-again c =
-    let o = filled (c .before .before .before .before .before) in
-    let l = looped o .loop in
-    let f = o .fill in
+    let got = got-bytes (c .before) in
+    let fill = filled (got .before) in
+    let l = looped fill .loop in
+    let f = fill .fill in
     record {
-      addresses-are = f .kept .1 .0 ∙ l .inv .addresses-are;
-      links-are = f .kept .1 .1 .0 ∙ l .inv .links-are;
-      deleters-are = f .kept .1 .1 .1 .0 ∙ l .inv .deleters-are;
+      tables = kept-on (l .inv .tables) (record { addresses = f .kept .1 .0; links = f .kept .1 .1 .0; deleters = f .kept .1 .1 .1 .0 });
       block-is = f .kept .1 .1 .1 .1 .0 ∙ l .inv .block-is;
-      numbered = got-bytes (c .before .before .before .before) .0;
+      numbered = falls _ (standing (looped fill)) (l .block) _ (f .ensures .0) (l .inv .numbered) (omega (arith, got .if1 .left)) .0;
       reached = onward (l .block) (l .inv .reached) (sym (ap (λ (x : Stop World). x .state) (f .ensures .0)));
     }
 
