@@ -5,3 +5,4 @@ pub mod Longer
 pub mod Begins
 pub mod Theorem
 pub mod EndToEnd
+pub mod LastLine

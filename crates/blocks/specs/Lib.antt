@@ -1,1 +1,2 @@
 pub mod ToCome
+pub mod LastLine

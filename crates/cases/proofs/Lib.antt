@@ -1,3 +1,3 @@
-pub mod Lent
-pub mod Rows
-pub mod Calls
+pub mod LentPart
+pub mod RecordArray
+pub mod ActsInRow

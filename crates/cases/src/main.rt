@@ -6,23 +6,19 @@ mod writing;
 ghost use mathlib.Core.Path.{_≡_};
 ghost use Prim.Native.Nat.{_≤_};
 ghost use lib.ListN.{take, drop};
-ghost use Rattle.lent.specs.Lent.{leaves, actIn};
-ghost use Rattle.tables.specs.Lengths.{Held, AsRead};
+ghost use Rattle.table.specs.Events.{stateOf, leavesIn, event as eventIn};
+ghost use Rattle.words.specs.LentMemory.{lentMemory};
+ghost use Rattle.cases.specs.Block.{Gathered};
 use lent::Said;
-use reading::Tables;
+use reading::LentRecords;
+use reading::Taken;
 use record::Event;
 use record::Record;
 use words::Sizes;
 
 // The records after an event, and what it says.
-struct Acted {
+struct RecordsLeft {
     records: [Record; 64],
-    said: Said,
-}
-
-// The tables after an event, and what it says.
-struct Done {
-    tables: Tables,
     said: Said,
 }
 
@@ -35,53 +31,41 @@ fn act_in_row(
     records: [Record; 64],
     lent: usize,
     event: Event,
-) -> Acted
+) -> RecordsLeft
     requires { ⌜ lent ≤ 64 ⌝ }
-    ensures { λ r. ⌜ (leaves (now (addresses .exit)) (now (links .exit)) (now (deleters .exit)) (take lent (r .records)) (r .said) ≡
-        actIn (now (addresses .entry)) (now (links .entry)) (now (deleters .entry)) sizes (take lent records) event)
+    ensures { λ r. ⌜ (leavesIn
+        (stateOf (lentMemory (now (addresses .exit)) (now (links .exit)) (now (deleters .exit)) (r .said .sizes)) (take lent (r .records)))
+        (r .said .outcome) ≡
+        eventIn (stateOf (lentMemory (now (addresses .entry)) (now (links .entry)) (now (deleters .entry)) sizes) (take lent records)) event)
         × (drop lent (r .records) ≡ drop lent records) ⌝ }
 {
     let mut row = records;
     let said = lent::act_in(addresses, links, deleters, sizes, &mut row[..lent], event);
-    Acted { records: row, said }
+    RecordsLeft { records: row, said }
 }
 
-// Lends the tables to an event.
-fn act(mut tables: Tables, event: Event) -> Done
-    requires { ⌜ AsRead tables ⌝ }
-    ensures { λ r. ⌜ Held (r .tables) ⌝ }
+// Works the event of a case on what is lent, and gathers its line.
+fn answer(
+    block: &mut [u8],
+    used: usize,
+    addresses: &mut [u32],
+    links: &mut [u32],
+    deleters: &mut [u32],
+    sizes: Sizes,
+    row: LentRecords,
+    event: Event,
+) -> usize
+    requires { ⌜ Gathered (now block) used ⌝ }
+    requires { ⌜ row .lent ≤ 64 ⌝ }
+    ensures { λ r. ⌜ Gathered (now (block .exit)) r ⌝ }
 {
-    let mut addresses = tables.addresses;
-    let mut links = tables.links;
-    let mut deleters = tables.deleters;
-    let mut row = tables.row;
-    let addresses_lent = addresses.lent;
-    let links_lent = links.lent;
-    let deleters_lent = deleters.lent;
-    let mut address_words = addresses.words;
-    let mut link_words = links.words;
-    let mut deleter_words = deleters.words;
-    let records = row.records;
-    let acted = act_in_row(
-        &mut address_words[..addresses_lent],
-        &mut link_words[..links_lent],
-        &mut deleter_words[..deleters_lent],
-        tables.sizes,
-        records,
-        row.lent,
-        event,
-    );
-    let after = acted.records;
-    let said = acted.said;
-    addresses.words = address_words;
-    links.words = link_words;
-    deleters.words = deleter_words;
-    row.records = after;
-    tables.addresses = addresses;
-    tables.links = links;
-    tables.deleters = deleters;
-    tables.row = row;
-    Done { tables, said }
+    let lent = row.lent;
+    let before = row.records;
+    let left = act_in_row(addresses, links, deleters, sizes, before, lent, event);
+    let records = left.records;
+    let said = left.said;
+    let after = LentRecords { records, lent };
+    writing::gather_line(block, used, said, addresses, links, deleters, after)
 }
 
 // Where output and input stand.
@@ -90,41 +74,78 @@ struct Stand {
     at: usize,
 }
 
-// Works on the next case, if there is one. After a bad one nothing is read.
-fn work(input: &[u8], out: &mut [u8; 65536], from: Stand) -> Stand
-    requires { ⌜ from .used ≤ 65536 ⌝ }
-    ensures { λ r. ⌜ r .used ≤ 65536 ⌝ }
+// Reads the row and the event of a case whose tables are lent, and answers it. After a bad case nothing is read.
+fn work_on(
+    input: &[u8],
+    before: Taken,
+    block: &mut [u8],
+    used: usize,
+    addresses: &mut [u32],
+    links: &mut [u32],
+    deleters: &mut [u32],
+    sizes: Sizes,
+) -> Stand
+    requires { ⌜ Gathered (now block) used ⌝ }
+    ensures { λ r. ⌜ Gathered (now (block .exit)) (r .used) ⌝ }
+{
+    let taken_row = reading::take_row(input, before);
+    let taken_event = reading::take_event(input, taken_row.last);
+    let last = taken_event.last;
+    if !last.good {
+        writing::write_out(block, used);
+        io::write_all(1, b"bad case\n");
+        return Stand {
+            used: 0,
+            at: input.len(),
+        };
+    }
+    let row = taken_row.row;
+    let event = taken_event.event;
+    let end = answer(block, used, addresses, links, deleters, sizes, row, event);
+    Stand {
+        used: end,
+        at: last.next,
+    }
+}
+
+// Works on the next case, if there is one.
+fn work(input: &[u8], block: &mut [u8], from: Stand) -> Stand
+    requires { ⌜ Gathered (now block) (from .used) ⌝ }
+    ensures { λ r. ⌜ Gathered (now (block .exit)) (r .used) ⌝ }
 {
     if input.len() <= from.at {
         return from;
     }
-    let case = reading::read_case(input, from.at);
-    let last = case.last;
-    if last.good {
-        let tables = case.tables;
-        let event = case.event;
-        let done = act(tables, event);
-        let after = done.tables;
-        let said = done.said;
-        return Stand {
-            used: writing::put_line(out, from.used, after, said),
-            at: last.next,
-        };
-    }
-    Stand {
-        used: writing::put(out, from.used, b"bad case\n"),
-        at: input.len(),
-    }
+    let taken_sizes = reading::take_sizes(input, from.at);
+    let taken_addresses = reading::take_words(input, taken_sizes.last);
+    let taken_links = reading::take_words(input, taken_addresses.last);
+    let taken_deleters = reading::take_words(input, taken_links.last);
+    let addresses_lent = taken_addresses.lent;
+    let links_lent = taken_links.lent;
+    let deleters_lent = taken_deleters.lent;
+    let mut addresses = taken_addresses.words;
+    let mut links = taken_links.words;
+    let mut deleters = taken_deleters.words;
+    work_on(
+        input,
+        taken_deleters.last,
+        block,
+        from.used,
+        &mut addresses[..addresses_lent],
+        &mut links[..links_lent],
+        &mut deleters[..deleters_lent],
+        taken_sizes.sizes,
+    )
 }
 
 fn main() {
     let mut bytes = [0u8; 262144];
     let n = io::read_full(0, &mut bytes);
-    let mut out = [0u8; 65536];
+    let mut block = [0u8; 65536];
     let mut stand = Stand { used: 0, at: 0 };
     // a case takes at least a byte
     for _ in 0..n {
-        stand = work(&bytes[..n], &mut out, stand);
+        stand = work(&bytes[..n], &mut block, stand);
     }
-    writing::write_out(&mut out, stand.used);
+    writing::write_out(&block, stand.used);
 }

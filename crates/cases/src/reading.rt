@@ -1,8 +1,9 @@
 // The format of the cases: each is its stated sizes and its count; the addresses, links and deleters, each its lent length and its words; the
 // row's lent length and its records; the event. Every number is in 01's form, and a bad one makes the case bad.
 ghost use Prim.Native.Nat.{_≤_};
-ghost use Rattle.tables.specs.Lengths.{Whole, AsRead};
+ghost use Rattle.cases.specs.Lengths.{Whole};
 use numbers::NumberRead;
+use record::Action;
 use record::Address;
 use record::Event;
 use record::Kept;
@@ -26,38 +27,22 @@ pub(crate) struct Taken {
     pub(crate) good: bool,
 }
 
-// The words of a table, and how many are lent.
-pub(crate) struct Words {
-    pub(crate) words: [u32; 64],
-    pub(crate) lent: usize,
-}
-
-// The records of the row, and how many are lent.
-pub(crate) struct Row {
+// The records that are lent: the first of an array.
+pub(crate) struct LentRecords {
     pub(crate) records: [Record; 64],
     pub(crate) lent: usize,
 }
 
-// Everything that is lent.
-pub(crate) struct Tables {
+// The parts of a case, each with the number taken last; a good case ends with a good number. Of a table the first words of an array are lent.
+pub(crate) struct TakenSizes {
     pub(crate) sizes: Sizes,
-    pub(crate) addresses: Words,
-    pub(crate) links: Words,
-    pub(crate) deleters: Words,
-    pub(crate) row: Row,
-}
-
-// A case, and the number taken last: a good case ends with a good number.
-pub(crate) struct Case {
-    pub(crate) tables: Tables,
-    pub(crate) event: Event,
     pub(crate) last: Taken,
 }
 
-// The parts of a case, each with the number taken last.
-struct TakenWords {
-    table: Words,
-    last: Taken,
+pub(crate) struct TakenWords {
+    pub(crate) words: [u32; 64],
+    pub(crate) lent: usize,
+    pub(crate) last: Taken,
 }
 
 struct TakenLost {
@@ -70,14 +55,19 @@ struct TakenKept {
     last: Taken,
 }
 
-struct TakenRow {
-    row: Row,
+struct TakenRecord {
+    record: Record,
     last: Taken,
 }
 
-struct TakenEvent {
-    event: Event,
-    last: Taken,
+pub(crate) struct TakenRow {
+    pub(crate) row: LentRecords,
+    pub(crate) last: Taken,
+}
+
+pub(crate) struct TakenEvent {
+    pub(crate) event: Event,
+    pub(crate) last: Taken,
 }
 
 // The next number, which is good if it is in its form and not above `most`; else 0.
@@ -103,8 +93,27 @@ fn take(input: &[u8], before: Taken, most: u32) -> Taken
     }
 }
 
-fn read_words(input: &[u8], before: Taken) -> TakenWords
-    ensures { λ r. ⌜ Whole (r .table) ⌝ }
+// The sizes of the case that stands at a place.
+pub(crate) fn take_sizes(input: &[u8], at: usize) -> TakenSizes {
+    let start = Taken {
+        number: 0,
+        next: at,
+        good: true,
+    };
+    let nodes = take(input, start, MOST);
+    let processes = take(input, nodes, MOST);
+    let count = take(input, processes, MOST);
+    let sizes = Sizes {
+        nodes: nodes.number,
+        processes: processes.number,
+        count: count.number,
+    };
+    TakenSizes { sizes, last: count }
+}
+
+// The words of a table.
+pub(crate) fn take_words(input: &[u8], before: Taken) -> TakenWords
+    ensures { λ r. ⌜ Whole r ⌝ }
 {
     let mut words = [0u32; 64];
     let mut last = take(input, before, MOST_LENT);
@@ -113,11 +122,10 @@ fn read_words(input: &[u8], before: Taken) -> TakenWords
         last = take(input, last, MOST);
         words[i] = last.number;
     }
-    let table = Words { words, lent };
-    TakenWords { table, last }
+    TakenWords { words, lent, last }
 }
 
-fn read_lost(input: &[u8], before: Taken) -> TakenLost {
+fn take_lost(input: &[u8], before: Taken) -> TakenLost {
     let place = take(input, before, MOST_BYTE);
     let pred = take(input, place, MOST);
     let curr = take(input, pred, MOST);
@@ -138,7 +146,7 @@ fn read_lost(input: &[u8], before: Taken) -> TakenLost {
     }
 }
 
-fn read_kept(input: &[u8], before: Taken) -> TakenKept {
+fn take_kept(input: &[u8], before: Taken) -> TakenKept {
     let status = take(input, before, MOST_BYTE);
     let kind = take(input, status, MOST_BYTE);
     let address = take(input, kind, MOST);
@@ -154,92 +162,61 @@ fn read_kept(input: &[u8], before: Taken) -> TakenKept {
     TakenKept { kept, last: result }
 }
 
-fn read_row(input: &[u8], before: Taken) -> TakenRow
+fn take_record(input: &[u8], before: Taken) -> TakenRecord {
+    let taken_lost = take_lost(input, before);
+    let taken_kept = take_kept(input, taken_lost.last);
+    let lost = taken_lost.lost;
+    let kept = taken_kept.kept;
+    let last = taken_kept.last;
+    let record = Record { lost, kept };
+    TakenRecord { record, last }
+}
+
+// The records of the row.
+pub(crate) fn take_row(input: &[u8], before: Taken) -> TakenRow
     ensures { λ r. ⌜ r .row .lent ≤ 64 ⌝ }
 {
     let mut records = [Record::fresh(); 64];
     let mut last = take(input, before, MOST_LENT);
     let lent = last.number as usize;
     for i in 0..lent {
-        let lost_part = read_lost(input, last);
-        let kept_part = read_kept(input, lost_part.last);
-        let lost = lost_part.lost;
-        let kept = kept_part.kept;
-        records[i] = Record { lost, kept };
-        let next = kept_part.last;
+        let taken = take_record(input, last);
+        let record = taken.record;
+        records[i] = record;
+        let next = taken.last;
         last = next;
     }
-    let row = Row { records, lent };
+    let row = LentRecords { records, lent };
     TakenRow { row, last }
 }
 
-// The event of a kind.
-fn event_of(kind: u32, p: Process, a: Address) -> Event {
+// The action of a kind.
+fn action_of(kind: u32, address: Address) -> Action {
     match kind {
-        0 => Event::Insert(p, a),
-        1 => Event::Delete(p, a),
-        2 => Event::Find(p, a),
-        3 => Event::Step(p),
-        4 => Event::Stop(p),
-        _ => Event::Restart(p),
+        0 => Action::Insert(address),
+        1 => Action::Delete(address),
+        2 => Action::Find(address),
+        3 => Action::Step,
+        4 => Action::Stop,
+        _ => Action::Restart,
     }
 }
 
-fn read_event(input: &[u8], before: Taken) -> TakenEvent {
+pub(crate) fn take_event(input: &[u8], before: Taken) -> TakenEvent {
     let kind = take(input, before, 5);
-    let process = take(input, kind, MOST);
-    let p = Process(process.number);
+    let number = take(input, kind, MOST);
+    let process = Process(number.number);
     if 2 < kind.number {
+        let action = action_of(kind.number, Address(0));
         return TakenEvent {
-            event: event_of(kind.number, p, Address(0)),
-            last: process,
+            event: Event { process, action },
+            last: number,
         };
     }
-    let address = take(input, process, MOST);
+    let address = take(input, number, MOST);
+    let action = action_of(kind.number, Address(address.number));
     TakenEvent {
-        event: event_of(kind.number, p, Address(address.number)),
+        event: Event { process, action },
         last: address,
-    }
-}
-
-// The case that stands at a place.
-pub(crate) fn read_case(input: &[u8], at: usize) -> Case
-    ensures { λ r. ⌜ AsRead (r .tables) ⌝ }
-{
-    let start = Taken {
-        number: 0,
-        next: at,
-        good: true,
-    };
-    let nodes = take(input, start, MOST);
-    let processes = take(input, nodes, MOST);
-    let count = take(input, processes, MOST);
-    let sizes = Sizes {
-        nodes: nodes.number,
-        processes: processes.number,
-        count: count.number,
-    };
-    let taken_addresses = read_words(input, count);
-    let taken_links = read_words(input, taken_addresses.last);
-    let taken_deleters = read_words(input, taken_links.last);
-    let taken_row = read_row(input, taken_deleters.last);
-    let taken_event = read_event(input, taken_row.last);
-    let addresses = taken_addresses.table;
-    let links = taken_links.table;
-    let deleters = taken_deleters.table;
-    let row = taken_row.row;
-    let event = taken_event.event;
-    let last = taken_event.last;
-    let tables = Tables {
-        sizes,
-        addresses,
-        links,
-        deleters,
-        row,
-    };
-    Case {
-        tables,
-        event,
-        last,
     }
 }

@@ -1,75 +1,61 @@
 // The line of a case: what the event came to, the count, the words of the three tables and the fields of every record, as they are afterwards.
-// Output is gathered in a block, and written out where a piece may not fit any more.
-ghost use Prim.Native.Nat.{_≤_, _<_};
+// Output is gathered in a block through the writers of text, and written out where a piece of it may not fit any more.
+ghost use Prim.Native.Nat.{_≤_};
 ghost use lib.ListN.{length};
-ghost use Rattle.tables.specs.Lengths.{Held};
-use crate::reading::Row;
-use crate::reading::Tables;
-use crate::reading::Words;
+ghost use Rattle.cases.specs.Block.{Gathered};
+use crate::reading::LentRecords;
 use lent::Said;
-use record::Outcome;
-use record::Record;
+use record::Kept;
+use record::Lost;
 
-fn flush(block: &[u8], used: usize)
+// Writes out what the block holds.
+pub(crate) fn write_out(block: &[u8], used: usize)
     requires { ⌜ used ≤ length (now block) ⌝ }
 {
     io::write_all(1, &block[..used]);
 }
 
-// Writes out what the block holds.
-pub(crate) fn write_out(out: &mut [u8; 65536], used: usize)
-    requires { ⌜ used ≤ 65536 ⌝ }
+// Where the next piece goes: at least 64 bytes are left there.
+fn room(block: &[u8], used: usize) -> usize
+    requires { ⌜ Gathered (now block) used ⌝ }
+    ensures { λ r. ⌜ r ≤ 65472 ⌝ }
 {
-    flush(out, used);
-}
-
-// Where the next byte goes: a full block is written out.
-fn room(out: &mut [u8; 65536], used: usize) -> usize
-    requires { ⌜ used ≤ 65536 ⌝ }
-    ensures { λ r. ⌜ r < 65536 ⌝ }
-{
-    if used < 65536 {
+    if used <= 65472 {
         return used;
     }
-    write_out(out, used);
+    write_out(block, used);
     0
 }
 
-// Puts some bytes.
-pub(crate) fn put(out: &mut [u8; 65536], used: usize, bytes: &[u8]) -> usize
-    requires { ⌜ used ≤ 65536 ⌝ }
-    ensures { λ r. ⌜ r ≤ 65536 ⌝ }
+// What an event came to, and the count after it.
+fn gather_said(block: &mut [u8], used: usize, said: Said) -> usize
+    requires { ⌜ Gathered (now block) used ⌝ }
+    ensures { λ r. ⌜ Gathered (now (block .exit)) r ⌝ }
 {
-    let mut end = used;
-    for i in 0..bytes.len() {
-        let at = room(out, end);
-        out[at] = bytes[i];
-        end = at + 1;
-    }
-    end
+    let sizes = said.sizes;
+    let outcome = said.outcome;
+    let at = room(block, used);
+    let end = at + text::put_outcome(&mut block[at..], outcome);
+    gather_number(block, end, sizes.count)
 }
 
-// Puts a number after a space.
-fn put_number(out: &mut [u8; 65536], used: usize, number: u32) -> usize
-    requires { ⌜ used ≤ 65536 ⌝ }
-    ensures { λ r. ⌜ r ≤ 65536 ⌝ }
+// A number after a space.
+fn gather_number(block: &mut [u8], used: usize, number: u32) -> usize
+    requires { ⌜ Gathered (now block) used ⌝ }
+    ensures { λ r. ⌜ Gathered (now (block .exit)) r ⌝ }
 {
-    let mut digits = [0u8; 20];
-    let k = io::decimal(number as u64, &mut digits);
-    let end = put(out, used, b" ");
-    put(out, end, &digits[..k])
+    let at = room(block, used);
+    at + text::put_number(&mut block[at..], number)
 }
 
-// Puts the lent words of a table.
-fn put_words(out: &mut [u8; 65536], used: usize, table: Words) -> usize
-    requires { ⌜ used ≤ 65536 ⌝ }
-    requires { ⌜ table .lent ≤ 64 ⌝ }
-    ensures { λ r. ⌜ r ≤ 65536 ⌝ }
+// The words of a table.
+fn gather_words(block: &mut [u8], used: usize, words: &[u32]) -> usize
+    requires { ⌜ Gathered (now block) used ⌝ }
+    ensures { λ r. ⌜ Gathered (now (block .exit)) r ⌝ }
 {
-    let words = table.words;
     let mut end = used;
-    for i in 0..table.lent {
-        end = put_number(out, end, words[i]);
+    for i in 0..words.len() {
+        end = gather_number(block, end, words[i]);
     }
     end
 }
@@ -79,79 +65,72 @@ fn digit(b: bool) -> u32 {
     if b { 1 } else { 0 }
 }
 
-fn put_record(out: &mut [u8; 65536], used: usize, r: Record) -> usize
-    requires { ⌜ used ≤ 65536 ⌝ }
-    ensures { λ r. ⌜ r ≤ 65536 ⌝ }
+fn gather_lost(block: &mut [u8], used: usize, lost: Lost) -> usize
+    requires { ⌜ Gathered (now block) used ⌝ }
+    ensures { λ r. ⌜ Gathered (now (block .exit)) r ⌝ }
 {
-    let mut end = put_number(out, used, r.lost.place as u32);
-    end = put_number(out, end, r.lost.pred.0);
-    end = put_number(out, end, r.lost.curr.0);
-    end = put_number(out, end, r.lost.succ.0);
-    end = put_number(out, end, r.lost.pending as u32);
-    end = put_number(out, end, digit(r.lost.recovering));
-    end = put_number(out, end, r.kept.status as u32);
-    end = put_number(out, end, r.kept.kind as u32);
-    end = put_number(out, end, r.kept.address.0);
-    end = put_number(out, end, r.kept.node.0);
-    put_number(out, end, r.kept.result as u32)
+    let mut end = gather_number(block, used, lost.place as u32);
+    end = gather_number(block, end, lost.pred.0);
+    end = gather_number(block, end, lost.curr.0);
+    end = gather_number(block, end, lost.succ.0);
+    end = gather_number(block, end, lost.pending as u32);
+    gather_number(block, end, digit(lost.recovering))
 }
 
-fn put_row(out: &mut [u8; 65536], used: usize, row: Row) -> usize
-    requires { ⌜ used ≤ 65536 ⌝ }
+fn gather_kept(block: &mut [u8], used: usize, kept: Kept) -> usize
+    requires { ⌜ Gathered (now block) used ⌝ }
+    ensures { λ r. ⌜ Gathered (now (block .exit)) r ⌝ }
+{
+    let mut end = gather_number(block, used, kept.status as u32);
+    end = gather_number(block, end, kept.kind as u32);
+    end = gather_number(block, end, kept.address.0);
+    end = gather_number(block, end, kept.node.0);
+    gather_number(block, end, kept.result as u32)
+}
+
+// The records that are lent.
+fn gather_records(block: &mut [u8], used: usize, row: LentRecords) -> usize
+    requires { ⌜ Gathered (now block) used ⌝ }
     requires { ⌜ row .lent ≤ 64 ⌝ }
-    ensures { λ r. ⌜ r ≤ 65536 ⌝ }
+    ensures { λ r. ⌜ Gathered (now (block .exit)) r ⌝ }
 {
     let records = row.records;
     let mut end = used;
     for i in 0..row.lent {
-        end = put_record(out, end, records[i]);
+        let r = records[i];
+        end = gather_lost(block, end, r.lost);
+        end = gather_kept(block, end, r.kept);
     }
     end
 }
 
-// The answer's word.
-fn put_answer(out: &mut [u8; 65536], used: usize, answer: u8) -> usize
-    requires { ⌜ used ≤ 65536 ⌝ }
-    ensures { λ r. ⌜ r ≤ 65536 ⌝ }
+// The end of the line.
+fn gather_newline(block: &mut [u8], used: usize) -> usize
+    requires { ⌜ Gathered (now block) used ⌝ }
+    ensures { λ r. ⌜ Gathered (now (block .exit)) r ⌝ }
 {
-    match answer {
-        1 => put(out, used, b"false"),
-        2 => put(out, used, b"true"),
-        _ => put(out, used, b"fail"),
-    }
-}
-
-fn put_outcome(out: &mut [u8; 65536], used: usize, outcome: Outcome) -> usize
-    requires { ⌜ used ≤ 65536 ⌝ }
-    ensures { λ r. ⌜ r ≤ 65536 ⌝ }
-{
-    match outcome {
-        Outcome::Accepted => put(out, used, b"ok"),
-        Outcome::Answered(answer) => put_answer(out, used, answer),
-        Outcome::Refused(number) => {
-            let end = put(out, used, b"refused");
-            put_number(out, end, number as u32)
-        }
-    }
+    let at = room(block, used);
+    at + text::put_newline(&mut block[at..])
 }
 
 // The whole line.
-pub(crate) fn put_line(out: &mut [u8; 65536], used: usize, tables: Tables, said: Said) -> usize
-    requires { ⌜ used ≤ 65536 ⌝ }
-    requires { ⌜ Held tables ⌝ }
-    ensures { λ r. ⌜ r ≤ 65536 ⌝ }
+pub(crate) fn gather_line(
+    block: &mut [u8],
+    used: usize,
+    said: Said,
+    addresses: &[u32],
+    links: &[u32],
+    deleters: &[u32],
+    row: LentRecords,
+) -> usize
+    requires { ⌜ Gathered (now block) used ⌝ }
+    requires { ⌜ row .lent ≤ 64 ⌝ }
+    ensures { λ r. ⌜ Gathered (now (block .exit)) r ⌝ }
 {
-    let sizes = said.sizes;
-    let outcome = said.outcome;
-    let addresses = tables.addresses;
-    let links = tables.links;
-    let deleters = tables.deleters;
-    let row = tables.row;
-    let mut end = put_outcome(out, used, outcome);
-    end = put_number(out, end, sizes.count);
-    end = put_words(out, end, addresses);
-    end = put_words(out, end, links);
-    end = put_words(out, end, deleters);
-    end = put_row(out, end, row);
-    put(out, end, b"\n")
+    let mut end = gather_said(block, used, said);
+    end = gather_words(block, end, addresses);
+    end = gather_words(block, end, links);
+    end = gather_words(block, end, deleters);
+    end = gather_records(block, end, row);
+    gather_newline(block, end)
 }

@@ -15,14 +15,14 @@ use Rattle.record.specs.declared.Node.{Node}
 use Rattle.record.specs.declared.Address.{Address}
 use Rattle.table.specs.Words.{Memory, addresses≔, links≔, addressAt, rank, addressLimit, aboveAll}
 use Rattle.table.specs.Events.{tablesFit}
-use Rattle.table.specs.Chain.{ahead, walk, chain, chainAddresses}
+use Rattle.table.specs.Chain.{lastOf, ahead, walk, chain, chainAddresses}
 use Rattle.words.specs.declared.Sizes.{Sizes}
 use Rattle.words.specs.LentMemory.{lentMemory, sized}
 use Rattle.chain.specs.declared.Ahead.{Ahead}
 use Rattle.chain.specs.declared.Ahead.the-variants.{Next}
 use Rattle.chain.specs.declared.Keys.the-variants.{Read, Refused}
 use Rattle.chain.specs.Walking.{aheadIn}
-use Rattle.chain.specs.Keys.{BufferLeft, bufferLeft, numbers, lastOf, readKeys, keysOf}
+use Rattle.chain.specs.Keys.{BufferLeft, bufferLeft, numbers, readKeys, keysOf}
 use Rattle.chain.proofs.Walks.{ahead-onto, walk-goes, walk-stops, Stops, told-next, told-stops}
 
 -- ---- lists: what is known of l where a part of it begins with x

@@ -1,17 +1,16 @@
 -- What reading the chain's addresses into a lent buffer leaves: "the address of every node on the chain between head and tail, rising".
 -- Rests on the table's `chain` and on Walking.
 use mathlib.Core.Bool.{cond}
-use mathlib.Core.List.{List, [], _∷_, map}
+use mathlib.Core.List.{List, map}
 use mathlib.Core.Option.{Option, none, some}
 use Prim.Native.Nat.{ℕ}
 use lib.ListN.{length, take}
 use Rattle.record.specs.Record.{headNode}
 use Rattle.basics.specs.Over.{over}
-use Rattle.record.specs.declared.Node.{Node}
 use Rattle.record.specs.declared.Address.{Address}
 use Rattle.table.specs.Words.{Memory}
 use Rattle.table.specs.Events.{tablesFit}
-use Rattle.table.specs.Chain.{ahead, chain, chainAddresses}
+use Rattle.table.specs.Chain.{ahead, chain, lastOf, chainAddresses}
 use Rattle.chain.specs.declared.Keys.{Keys}
 use Rattle.chain.specs.declared.Keys.the-variants.{Refused, Read}
 use Rattle.chain.specs.declared.Ahead.{Ahead}
@@ -34,11 +33,6 @@ bufferLeft buffer answer = record { buffer = buffer; answer = answer }
 -- addresses as a buffer has them: their numbers
 abbrev pub numbers : List Address → List ℕ
 numbers addresses = map (λ a. a .0) addresses
-
--- the node that a walk from n along these nodes stands on
-abbrev pub lastOf : Node → List Node → Node
-lastOf n [] = n
-lastOf n (x ∷ xs) = lastOf x xs
 
 -- As many of the chain's addresses as there is room for, the rest of the buffer as it was; how many they are, and what lies ahead of the last of
 -- them: tail, a target not in use, one not above, or, where the buffer is full, a next node.

@@ -1,4 +1,4 @@
--- The theorems to read first: Numbers (its end), Accepted, AfterRefusal, Written, Demand3 and, for a program that reads by a cursor, Comes.
+-- The theorems to read first: Numbers (its end), Accepted, AfterRefusal, Written, Writer, Demand3 and, for a program that reads by a cursor, Comes.
 pub mod Follows
 pub mod ReadAll
 pub mod Comes
@@ -11,3 +11,5 @@ pub mod Accepted
 pub mod Looked
 pub mod AfterRefusal
 pub mod Written
+pub mod Writer
+pub mod Demand3

@@ -25,7 +25,7 @@ use Rattle.files.proofs.Accepted.{accepted, encoding-read}
 -- ---- bytes laid
 
 -- "bytes past 65,536 count as absent"
-abbrev limit : List ℕ → ℕ
+abbrev pub limit : List ℕ → ℕ
 limit output = min (length output) 65536
 
 put-fits : (bytes output : List ℕ) (at : ℕ) → at + length bytes ≤ limit output
@@ -33,11 +33,11 @@ put-fits : (bytes output : List ℕ) (at : ℕ) → at + length bytes ≤ limit 
 unfolding put
 put-fits bytes output at l = rw (le-leb (length bytes) (room output at) (omega arith))
 
-length-laid : (bytes output : List ℕ) (at : ℕ) → at + length bytes ≤ length output → length (laid bytes output at) ≡ length output
+pub length-laid : (bytes output : List ℕ) (at : ℕ) → at + length bytes ≤ length output → length (laid bytes output at) ≡ length output
 length-laid bytes output at l = simp (length-append, length-take, length-drop) (omega arith)
 
 -- bytes laid after bytes laid
-laid-after : (b c output : List ℕ) (at : ℕ) → at ≤ length output → laid c (laid b output at) (at + length b) ≡ laid (b ++ c) output at
+pub laid-after : (b c output : List ℕ) (at : ℕ) → at ≤ length output → laid c (laid b output at) (at + length b) ≡ laid (b ++ c) output at
 laid-after b c output at l =
     let head = take at output in
     let rest = drop (length b) (drop at output) in
@@ -49,7 +49,7 @@ laid-after b c output at l =
 -- ---- events, then a file
 
 -- events written after something was, if that was not refused
-abbrev andThen : List Event → Wrote → Wrote
+abbrev pub andThen : List Event → Wrote → Wrote
 andThen events w = cond (eqb (w .refusal) 0) (writtenEvents events (w .output) (w .at)) w
 
 -- all of these bytes are written
@@ -124,7 +124,7 @@ written-exactly h events output =
 
 -- ---- there and back
 
-singles-fit : (events : List Event) → Each EventFits events → Each ItemFits (singles events)
+pub singles-fit : (events : List Event) → Each EventFits events → Each ItemFits (singles events)
 singles-fit [] fit = tt
 singles-fit (e ∷ events) fit = (fit .0, singles-fit events (fit .1))
 

@@ -15,6 +15,8 @@ use Rattle.record.proofs.Process as process
 use Rattle.record.proofs.Process.Laws as process-laws
 use Rattle.record.proofs.Action as action
 use Rattle.record.proofs.Action.Laws as action-laws
+use Rattle.record.proofs.Event as event
+use Rattle.record.proofs.Event.Laws as event-laws
 use Rattle.table.specs.Words as words
 use Rattle.table.specs.Events.{act}
 use Rattle.words.specs.declared.Sizes.{Sizes}
@@ -36,6 +38,9 @@ process-values = of-struct process.the-type process-laws.the-laws process-laws.t
 
 abbrev pub action-values : ByValue
 action-values = of-enum action.the-type action-laws.the-laws action-laws.the-plain tt
+
+abbrev pub event-values : ByValue
+event-values = of-struct event.the-type event-laws.the-laws event-laws.the-plain
 
 abbrev pub sizes-values : ByValue
 sizes-values = of-struct sizes.the-type sizes-laws.the-laws sizes-laws.the-plain

@@ -1,5 +1,5 @@
 -- Accesses as the code makes them, of what its calls told: reads, the link words made of nodes in use, swaps and writes. Rests on Accesses and Rows.
-use mathlib.Core.Path.{_≡_, refl, sym, ap, _∙_}
+use mathlib.Core.Path.{_≡_, refl, sym, _∙_}
 use mathlib.Core.Bool.{Bool, true, false, not, _&&_}
 use mathlib.Core.List.{List}
 use Prim.Native.Nat.{ℕ, _<_, _%_}
@@ -9,34 +9,23 @@ use native.Mathlib.Omega.{arith}
 use Rattle.record.specs.declared.Node.{Node}
 use Rattle.record.specs.declared.Process.{Process}
 use Rattle.record.specs.declared.Record.{Record}
-use Rattle.table.specs.Words.{Memory, linkAt, deleterAt, linkWord, targetOf, isMarked, inUse, noDeleter, deleterWord}
+use Rattle.table.specs.Words.{Memory, deleterAt, linkWord, inUse, noDeleter, deleterWord}
 use Rattle.table.specs.Places.{Field, head, pred, curr, succ, own, nodeOf, unmarked, linkOf}
 use Rattle.table.specs.Steps.{usable, fieldOf}
 use Rattle.basics.proofs.Tests.{and-left, and-right}
 use Rattle.words.specs.LentMemory.{sized}
-use Rattle.words.specs.LentWords.{swapOf}
+use Rattle.words.specs.LentWords.{noLink, linkMet, swapOf}
 use Rattle.words.specs.declared.Sizes.{Sizes}
 use Rattle.words.proofs.Links.{small-word}
-use Rattle.list.specs.declared.access.LinkRead.{LinkRead}
+use Rattle.words.specs.declared.LinkRead.{LinkRead}
 use Rattle.list.specs.declared.access.SwapMet.{SwapMet}
-use Rattle.list.specs.Accesses.{linkNamed, noLink, linkMet, linkRead, deleterRead, writeLeft, linkWritten, AccessLeft, accessLeft, swapMade}
+use Rattle.list.specs.Accesses.{linkNamed, linkRead, deleterRead, writeLeft, linkWritten, AccessLeft, accessLeft, swapMade}
 use Rattle.list.specs.Accesses.{noSwap, linkSwap, deleterSwap}
 use Rattle.list.specs.Rows.{Within}
 
 -- ---- reads
 
 module _ (m : Memory) where
-  pub link-is-met : (n : Node) (word : ℕ) (target : Node) (used mark : Bool) →
-      word ≡ linkAt m n → target ≡ targetOf word → used ≡ inUse m target → used ≡ true → mark ≡ isMarked word →
-      record { accepted = true; target = target; mark = mark } ≡ linkMet m n
-  unfolding linkMet
-  link-is-met n word target used mark read leads tests so tells = rw (tells, leads, read, ← rw (leads, read) at tests, so)
-
-  pub link-leads-out : (n : Node) (word : ℕ) (target : Node) (used : Bool) →
-      word ≡ linkAt m n → target ≡ targetOf word → used ≡ inUse m target → used ≡ false → noLink ≡ linkMet m n
-  unfolding linkMet
-  link-leads-out n word target used read leads tests unused = rw (← rw (leads, read) at tests, unused)
-
   module _ (r : Record) (f : Field) (u : Bool) (is : u ≡ usable (inUse m) r f) where
     pub link-is-read : (n : Node) (read : LinkRead) → u ≡ true → n ≡ nodeOf r f → read ≡ linkMet m n → read ≡ linkRead m r f
     unfolding linkRead

@@ -1,5 +1,5 @@
 -- The rows one by one: what the code of a place answers, from what its calls told, is what the step there leaves. Rests on Turns.
-use mathlib.Core.Path.{_≡_, refl, ap, _∙_}
+use mathlib.Core.Path.{_≡_, refl, _∙_}
 use mathlib.Core.Bool.{Bool, true, false, cond, not, _&&_, _||_}
 use mathlib.Core.List.{List}
 use Prim.Native.Nat.{ℕ}
@@ -10,13 +10,13 @@ use Rattle.record.specs.declared.Process.{Process}
 use Rattle.record.specs.declared.Record.{Record}
 use Rattle.record.specs.declared.Outcome.the-variants.{Accepted, Answered}
 use Rattle.table.specs.Words.{Memory, links≔, deleters≔, inUse}
-use Rattle.table.specs.Places.{Field, head, pred, curr, succ, own, unmarked, marked, placeOf, row}
+use Rattle.table.specs.Places.{head, pred, curr, succ, own, unmarked, marked, placeOf, row}
 use Rattle.table.specs.Steps.{usable}
 use Rattle.table.specs.Events.{step}
 use Rattle.words.specs.LentMemory.{sized}
 use Rattle.words.specs.declared.Sizes.{Sizes}
 use Rattle.list.specs.declared.Acted.{Acted}
-use Rattle.list.specs.declared.access.LinkRead.{LinkRead}
+use Rattle.words.specs.declared.LinkRead.{LinkRead}
 use Rattle.list.specs.declared.access.DeleterRead.{DeleterRead}
 use Rattle.list.specs.declared.access.SwapMet.{SwapMet}
 use Rattle.list.specs.Acting.{left}

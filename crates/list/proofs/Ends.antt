@@ -1,7 +1,6 @@
 -- Rows 1 and 11, which choose among more than two places: the record as the code chooses its fields is the one that follows. Rests on Turns.
 use mathlib.Core.Path.{_≡_, refl, sym, ap, _∙_}
 use mathlib.Core.Bool.{Bool, true, false, cond, not, _&&_, _||_}
-use mathlib.Core.List.{List}
 use Prim.Native.Nat.{ℕ}
 use lib.Dec.{eqb}
 use Rattle.basics.proofs.Tests.{by-test}
@@ -18,7 +17,7 @@ use Rattle.words.specs.LentMemory.{sized}
 use Rattle.words.specs.LentWords.{comparedOf}
 use Rattle.words.specs.declared.Compared.{Compared}
 use Rattle.words.specs.declared.Sizes.{Sizes}
-use Rattle.list.specs.declared.access.LinkRead.{LinkRead}
+use Rattle.words.specs.declared.LinkRead.{LinkRead}
 use Rattle.list.specs.declared.Acted.{Acted}
 use Rattle.list.specs.declared.search.Goal.{Goal}
 use Rattle.list.specs.Acting.{left}

@@ -1,6 +1,6 @@
 -- An event judged: refusals 7, 1, 2 in this order, then what each action does; and what follows of tables that fit. Rests on the table's Events and
 -- on Rows.
-use mathlib.Core.Path.{_≡_, refl, sym, ap, _∙_}
+use mathlib.Core.Path.{_≡_, refl, ap, _∙_}
 use mathlib.Core.Bool.{Bool, true, false}
 use mathlib.Core.List.{List}
 use mathlib.Core.Option.{none}

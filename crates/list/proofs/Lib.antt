@@ -2,6 +2,6 @@ pub mod Turns
 pub mod Accessed
 pub mod Ends
 pub mod ByPlace
-pub mod InRange
+pub mod OutOfRange
 pub mod Judged
 pub mod Unique

@@ -14,16 +14,16 @@ use Rattle.table.specs.Words.{Memory, links≔, deleters≔, linkAt, deleterAt,
 use Rattle.table.specs.Words.{nothing, linkIs, deleterIs}
 use Rattle.table.specs.Places.{Field, Link, Row, Next, goes, nodeOf, linkOf, placeOf, row}
 use Rattle.table.specs.Places.{readLink, writeLink, swapLink, readDeleter, swapDeleter, writeNode, ownRecord, handOut}
-use Rattle.table.specs.Steps.{usable, allUsable, allUsed, inRange, turnIn, wordMet, ownUsable, recordAfter, fieldOf, accessOf}
+use Rattle.table.specs.Steps.{usable, allUsable, allUsed, turnIn, wordMet, ownUsable, recordAfter, fieldOf, accessOf}
 use Rattle.table.specs.Events.{Left, step, leaving, refused}
 use Rattle.words.specs.LentMemory.{sized}
-use Rattle.words.specs.LentWords.{SwapLeft, swapLeft, swapped, swapOf}
+use Rattle.words.specs.LentWords.{noLink, linkMet, swapLeft, swapped, swapOf}
 use Rattle.words.specs.declared.Sizes.{Sizes}
-use Rattle.list.specs.declared.access.LinkRead.{LinkRead}
+use Rattle.words.specs.declared.LinkRead.{LinkRead}
 use Rattle.list.specs.declared.access.DeleterRead.{DeleterRead}
 use Rattle.list.specs.declared.access.SwapMet.{SwapMet}
 use Rattle.list.specs.Acting.{left}
-use Rattle.list.specs.Accesses.{noLink, linkMet, linkRead, deleterRead, writeLeft, linkWritten, AccessLeft, accessLeft, swapMade, noSwap}
+use Rattle.list.specs.Accesses.{linkRead, deleterRead, writeLeft, linkWritten, accessLeft, swapMade, noSwap}
 use Rattle.list.specs.Accesses.{linkSwap, deleterSwap}
 use Rattle.list.specs.Rows.{StandsAt, turnOf, answered}
 

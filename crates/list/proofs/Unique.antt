@@ -2,7 +2,6 @@
 use mathlib.Core.Path.{_≡_, sym, _∙_}
 use mathlib.Core.List.{List}
 use Prim.Native.Nat.{ℕ}
-use Rattle.table.specs.Words.{Memory}
 use Rattle.table.specs.Events.{Left}
 use Rattle.words.specs.LentMemory.{lentMemory, sizesOf}
 use Rattle.list.specs.declared.Acted.{Acted}

@@ -5,17 +5,15 @@ use mathlib.Core.List.{List}
 use Prim.Native.Nat.{ℕ}
 use lib.Dec.{eqb}
 use lib.ListN.{set}
-use Rattle.record.specs.Record.{noNode}
-use Rattle.record.specs.declared.Node.{Node}
 use Rattle.record.specs.declared.Process.{Process}
 use Rattle.record.specs.declared.Record.{Record}
-use Rattle.table.specs.Words.{Memory, linkAt, deleterAt, targetOf, isMarked, inUse, noDeleter, deleterWord}
+use Rattle.table.specs.Words.{Memory, deleterAt, inUse, noDeleter, deleterWord}
 use Rattle.table.specs.Places.{Field, head, pred, curr, succ, own, nodeOf, Link, unmarked, marked, linkOf}
 use Rattle.table.specs.Steps.{usable, fieldOf}
-use Rattle.words.specs.LentWords.{SwapLeft, swapOf}
+use Rattle.words.specs.LentWords.{noLink, linkMet, SwapLeft, swapOf}
+use Rattle.words.specs.declared.LinkRead.{LinkRead}
 use Rattle.list.specs.declared.access.Field as code
 use Rattle.list.specs.declared.access.Field.the-variants as named
-use Rattle.list.specs.declared.access.LinkRead.{LinkRead}
 use Rattle.list.specs.declared.access.DeleterRead.{DeleterRead}
 use Rattle.list.specs.declared.access.SwapMet.{SwapMet}
 
@@ -32,15 +30,6 @@ abbrev pub linkNamed : Field → (mark : Bool) → Link
 linkNamed f mark = cond mark (marked f) (unmarked f)
 
 -- ---- reads
-
-abbrev pub noLink : LinkRead
-noLink = record { accepted = false; target = noNode; mark = false }
-
--- target and mark of a node's link, if the target is in use
-unfoldable pub linkMet : Memory → Node → LinkRead
-linkMet m n =
-    let word = linkAt m n in
-    cond (inUse m (targetOf word)) (record { accepted = true; target = targetOf word; mark = isMarked word }) noLink
 
 unfoldable pub linkRead : Memory → Record → Field → LinkRead
 linkRead m r f = cond (usable (inUse m) r f) (linkMet m (nodeOf r f)) noLink

@@ -1,7 +1,7 @@
 -- What the rows' private functions promise, so that their callers can be proved: parts of the place table's own definitions. A reader of the public
 -- promises needs none of this. Rests on the table's Steps.
 use mathlib.Core.Path.{_≡_}
-use mathlib.Core.Bool.{Bool, true, cond, not, _&&_, _||_}
+use mathlib.Core.Bool.{Bool, true, cond}
 use mathlib.Core.List.{List}
 use Prim.Native.Nat.{ℕ, _+_, _<_, _≤_}
 use lib.Dec.{eqb}

@@ -7,7 +7,7 @@ ghost use Rattle.table.specs.Places.{nodeOf, unmarked};
 ghost use Rattle.table.specs.Steps.{usable};
 ghost use Rattle.words.specs.LentMemory.{sized};
 ghost use Rattle.words.specs.LentWords.{swapOf};
-ghost use Rattle.list.specs.Accesses.{fieldNamed, linkNamed, linkMet, linkRead, deleterRead, writeLeft, linkWritten};
+ghost use Rattle.list.specs.Accesses.{fieldNamed, linkNamed, linkRead, deleterRead, writeLeft, linkWritten};
 ghost use Rattle.list.specs.Accesses.{accessLeft, swapMade, noSwap, linkSwap, deleterSwap};
 ghost use Rattle.list.specs.Rows.{Within};
 use record::HEAD;
@@ -15,6 +15,7 @@ use record::NO_NODE;
 use record::Node;
 use record::Process;
 use record::Record;
+use words::LinkRead;
 use words::Sizes;
 
 // A node as a row names it: head, or a field of the record.
@@ -24,13 +25,6 @@ pub(crate) enum Field {
     Curr,
     Succ,
     Own,
-}
-
-// What reading a link meets: whether it is accepted, target and mark.
-pub(crate) struct LinkRead {
-    pub(crate) accepted: bool,
-    pub(crate) target: Node,
-    pub(crate) mark: bool,
 }
 
 // What reading a deleter meets: whether it is accepted, and whether it is the process.
@@ -80,32 +74,12 @@ pub(crate) fn usable(links: &[u32], sizes: Sizes, old: Record, field: Field) -> 
     }
 }
 
-// The link word of a node, read: accepted if its target is in use.
-fn link_met(links: &[u32], sizes: Sizes, n: Node) -> LinkRead
-    ensures { λ r. ⌜ ((m : Memory) → r ≡ linkMet (sized sizes (links≔ (now (links .entry)) m)) n) ⌝ }
-{
-    let word = words::word_at(links, n);
-    let target = words::target_of(word);
-    if words::in_use(links, sizes, target) {
-        return LinkRead {
-            accepted: true,
-            target,
-            mark: words::is_marked(word),
-        };
-    }
-    LinkRead {
-        accepted: false,
-        target: NO_NODE,
-        mark: false,
-    }
-}
-
 // Reads the link of a field's node.
 pub(crate) fn read_link(links: &[u32], sizes: Sizes, old: Record, field: Field) -> LinkRead
     ensures { λ r. ⌜ ((m : Memory) → r ≡ linkRead (sized sizes (links≔ (now (links .entry)) m)) old (fieldNamed field)) ⌝ }
 {
     if usable(links, sizes, old, field) {
-        return link_met(links, sizes, node_of(old, field));
+        return words::link_met(links, sizes, node_of(old, field));
     }
     LinkRead {
         accepted: false,

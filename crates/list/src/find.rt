@@ -12,13 +12,13 @@ ghost use Rattle.list.specs.Rows.{StandsAt};
 use crate::Acted;
 use crate::access;
 use crate::access::Field;
-use crate::access::LinkRead;
 use crate::answers;
 use record::FALSE;
 use record::Record;
 use record::TRUE;
 use record::either;
 use words::Compared;
+use words::LinkRead;
 use words::Sizes;
 
 // What place 11 makes of the link that it read, and of how its target stands to the address.

@@ -15,7 +15,6 @@ ghost use Rattle.list.specs.Rows.{StandsAt, Within, EndsAt};
 use crate::Acted;
 use crate::access;
 use crate::access::Field;
-use crate::access::LinkRead;
 use crate::answers;
 use record::FALSE;
 use record::HEAD;
@@ -24,6 +23,7 @@ use record::Record;
 use record::TRUE;
 use record::either;
 use words::Compared;
+use words::LinkRead;
 use words::Sizes;
 
 // Where a search that ends goes, and the pending answer that it goes with.

@@ -15,29 +15,9 @@ use crate::find;
 use crate::insert;
 use crate::recovery;
 use crate::search;
-use record::FAIL;
-use record::FINDS;
-use record::NO_ANSWER;
 use record::Process;
 use record::Record;
 use words::Sizes;
-
-// Whether the fields of a record are in their ranges: those of any place, then the kind at the places of a search, the answer at the last two.
-fn in_range(old: Record) -> bool
-    ensures { λ r. ⌜ r ≡ inRange old ⌝ }
-{
-    let place = old.lost.place;
-    let pending = old.lost.pending;
-    let kind = old.kept.kind;
-    let ranged = (place <= 19) & (kind <= 2) & (pending <= 3) & (old.kept.result <= 2);
-    if place <= 2 {
-        return ranged & (kind != FINDS);
-    }
-    if place < 18 {
-        return ranged;
-    }
-    ranged & (pending != NO_ANSWER) & ((place != 18) | (pending != FAIL))
-}
 
 // The row of a record whose fields are in their ranges.
 fn row(
@@ -108,7 +88,7 @@ pub(crate) fn step(
         left (deleters≔ (now (deleters .exit)) (links≔ (now (links .exit)) (addresses≔ (now (addresses .entry)) m))) a ≡
         step (sized sizes (deleters≔ (now (deleters .entry)) (links≔ (now (links .entry)) (addresses≔ (now (addresses .entry)) m)))) p old) ⌝ }
 {
-    let ranged = in_range(old);
+    let ranged = words::in_range(old);
     if ranged {
         return row(addresses, links, deleters, sizes, p, old);
     }

@@ -39,7 +39,7 @@ read-event-unique bytes cursor r s e f = answer-unique e f
 -- ---- the writer: no two answers stand for the same numbers, since a write takes a byte at least
 
 -- without a refusal the next place is a later one
-abbrev Later : ℕ → Wrote → Type 0
+abbrev pub Later : ℕ → Wrote → Type 0
 Later at w = w .refusal ≡ 0 → at + 1 ≤ w .at
 
 tells-apart : (at : ℕ) (w : Wrote) → Later at w → (x y : List ℕ) (r s : Written) → answered x at r ≡ w
@@ -71,19 +71,22 @@ event-some : (e : Event) → 1 ≤ length (eventBytes e)
 unfolding eventBytes
 event-some e = simp length-append (omega (arith, number-size (kindOf (e .action))))
 
+pub header-later : (h : Header) (out : List ℕ) (at : ℕ) → Later at (writtenHeader h out at)
+unfolding writtenHeader
+header-later h out at =
+    if (Later at) (sizesFit (h .nodes) (h .processes)) (λ _. put-later (headerBytes h) out at (header-some h)) (λ _ e. absurd (omega arith))
+
+pub event-later : (e : Event) (out : List ℕ) (at : ℕ) → Later at (writtenEvent e out at)
+unfolding writtenEvent
+event-later e out at = put-later (eventBytes e) out at (event-some e)
+
 module _ (out : List ℕ) (at : ℕ) (x y : List ℕ) (r s : Written) where
   pub write-header-unique : (h : Header) → answered x at r ≡ writtenHeader h out at
       → answered y at s ≡ writtenHeader h out at
       → (x ≡ y) × (r ≡ s)
-  unfolding writtenHeader
-  write-header-unique h =
-      tells-apart at (writtenHeader h out at)
-      (if (Later at) (sizesFit (h .nodes) (h .processes)) (λ _. put-later (headerBytes h) out at (header-some h)) (λ _ e. absurd (omega arith)))
-      x y r s
+  write-header-unique h = tells-apart at (writtenHeader h out at) (header-later h out at) x y r s
 
   pub write-event-unique : (e : Event) → answered x at r ≡ writtenEvent e out at
       → answered y at s ≡ writtenEvent e out at
       → (x ≡ y) × (r ≡ s)
-  unfolding writtenEvent
-  write-event-unique e =
-      tells-apart at (writtenEvent e out at) (put-later (eventBytes e) out at (event-some e)) x y r s
+  write-event-unique e = tells-apart at (writtenEvent e out at) (event-later e out at) x y r s

@@ -27,7 +27,7 @@ pub use Rattle.record.specs.declared.Action.{Action}
 pub use Rattle.record.specs.declared.Action.the-variants.{Insert, Delete, Find, Step}
 pub use Rattle.record.specs.declared.Outcome.{Outcome}
 pub use Rattle.record.specs.declared.Outcome.the-variants.{Refused, Accepted, Answered}
-pub use Rattle.table.specs.Words.{Memory, linkWord, targetOf, isMarked, inUse, aboveAll, below, equal, Write, nothing, linkIs, deleterIs}
+pub use Rattle.table.specs.Words.{Memory, linkWord, targetOf, isMarked, inUse, addressLimit, aboveAll, below, equal, Write, nothing, linkIs, deleterIs}
 pub use Rattle.table.specs.Words.{nextNode, noneLeft}
 unfoldable pub use Rattle.table.specs.Words.{addressAt, linkAt, deleterAt, rank, written, givenOut}
 pub use Rattle.table.specs.Places.{Place, p0, p1, p2, p3, p4, p5, p6, p7, p8, p9, p10, p11, p12, p13, p14, p15, p16, p17, p18, p19, off, Next}

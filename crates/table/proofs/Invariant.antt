@@ -3,6 +3,7 @@ pub mod Moments
 pub mod Known
 pub mod KnownWrites
 pub mod KnownStays
+pub mod RowsUse
 pub mod InsertSteps
 pub mod DeleteSteps
 pub mod FindSteps
@@ -10,10 +11,13 @@ pub mod EventCases
 pub mod GoingOn
 pub mod Played
 pub mod RunInvariant
+pub mod AnswersFit
 pub mod OpenOperations
 pub mod TablesFit
+pub mod StepsFit
 pub mod HeldChanges
 pub mod HeldByPlace
 pub mod Deleters
 pub mod Winners
+pub mod Strikes
 pub mod RunFacts

@@ -5,6 +5,9 @@ pub mod Reaching
 pub mod Numbered
 pub mod Ahead
 pub mod Accesses
+pub mod RowTests
+pub mod Refusal8
 pub mod Ranges
 pub mod Events
 pub mod Sizes
+pub mod Lists

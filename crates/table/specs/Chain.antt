@@ -65,5 +65,10 @@ walk (suc k) m n = elim (ahead m n) [ onto x ↦ x ∷ walk k m x | tailAhead �
 unfoldable pub chain : Memory → List Node
 chain m = walk aboveAll m headNode
 
+-- the node that a walk from a node along a list stands on at its end
+abbrev pub lastOf : Node → List Node → Node
+lastOf from [] = from
+lastOf from (n ∷ l) = lastOf n l
+
 unfoldable pub chainAddresses : Memory → List Address
 chainAddresses m = map (λ n. address (addressAt m n)) (chain m)

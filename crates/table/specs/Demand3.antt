@@ -1,7 +1,7 @@
 -- Demand 3 of the place table: every run from a quiet state has an order, and every node struck in it has one release, or one on its way.
 -- Rests on Events, Chain and History.
 use mathlib.Core.Path.{_≡_}
-use mathlib.Core.Logic.{_≢_, _⊎_, _↔_}
+use mathlib.Core.Logic.{_≢_, _↔_}
 use mathlib.Core.Bool.{true, false, cond}
 use mathlib.Core.Option.{Option, none, some}
 use Prim.Native.Nat.{ℕ, zero, suc, _≤_, _<_}
@@ -121,14 +121,34 @@ module _ (σ₀ : State) (e : ℕ → Event) where
   abbrev pub Marks : ℕ → Node → Type 0
   Marks t n = (isMarked (linkAt (at t .memory) n) ≡ false) × Struck (at (suc t) .memory) n
 
-  -- At most one release of n is answered true. Where an event t marked n, it belonged to an operation; and a release of n is answered true, or
-  -- else the deleter's release of n is current, or, if n has no deleter, the operation that marked it is.
+  -- a release of n answered true, requested before event t and answered after it
+  pub record ReleasedAround (T t : ℕ) (n : Node) (r : ℕ) : Type 0 where
+    pub release : ReleasedBy T n r
+    pub before : r < t
+    pub after : t < release .time
+
+  -- what has become of the node n that event t marked, after the first T events; r is the request of the operation that marked it
+  pub data Fate (T t : ℕ) (n : Node) (r : ℕ) : Type 0 where
+    -- a release of n is answered true, requested before the mark and answered after it
+    released : (r′ : ℕ) → ReleasedAround T t n r′ → Fate T t n r
+    -- n has a deleter, and its release of n, requested before the mark, is current
+    deleter-current : (p : Process) → deleterAt (at T .memory) n ≡ deleterWord p → (r′ : ℕ) → r′ < t → CurrentRelease T n p r′ → Fate T t n r
+    -- n has no deleter, and the operation that marked it is current, a release of n
+    marker-current : deleterAt (at T .memory) n ≡ noDeleter → CurrentRelease T n (e t .process) r → Fate T t n r
+
+  -- event t marked n: it belonged to a release of n, current then
+  pub record Strike (T t : ℕ) (n : Node) : Type 0 where
+    pub marker : ℕ
+    pub marking : CurrentRelease t n (e t .process) marker
+    pub fate : Fate T t n marker
+
+  -- At most one event marks n. Every release of n that is answered true has such an event between its request and its answer, and at most one release
+  -- has it there. Of every event that marks n it is known what has become of n.
   pub record StruckOnce (T : ℕ) (n : Node) : Type 0 where
-    pub once : (r r′ : ℕ) → ReleasedBy T n r → ReleasedBy T n r′ → r ≡ r′
-    pub struck : (t : ℕ) → t < T → Marks t n → (r : ℕ) × Current t (e t .process) r
-        × (((r′ : ℕ) × ReleasedBy T n r′)
-        ⊎ (((p : Process) → deleterAt (at T .memory) n ≡ deleterWord p → (r′ : ℕ) × CurrentRelease T n p r′)
-        × (deleterAt (at T .memory) n ≡ noDeleter → CurrentRelease T n (e t .process) r)))
+    pub marked-once : (t t′ : ℕ) → t < T → t′ < T → Marks t n → Marks t′ n → t ≡ t′
+    pub around : (r : ℕ) → ReleasedBy T n r → (t : ℕ) × (t < T) × Marks t n × ReleasedAround T t n r
+    pub once : (t r r′ : ℕ) → ReleasedAround T t n r → ReleasedAround T t n r′ → r ≡ r′
+    pub struck : (t : ℕ) → t < T → Marks t n → Strike T t n
 
 -- ---- demand 3
 

@@ -1,8 +1,8 @@
 -- 01's events and the refusals of an event in their order, on one record and on a row of records; fresh tables; runs. Rests on Steps.
-use mathlib.Core.Bool.{Bool, true, cond, not, _&&_}
+use mathlib.Core.Bool.{Bool, cond, _&&_}
 use mathlib.Core.List.{List, [], _∷_}
 use mathlib.Core.Option.{none}
-use Prim.Native.Nat.{ℕ, _+_}
+use Prim.Native.Nat.{ℕ}
 use lib.Dec.{leb, ltb, eqb}
 use lib.ListN.{length, getD, set, replicate}
 use Rattle.record.specs.Record.{freshRecord, requested, wentDown, restarted, noNode, Idle, Running, Down, Inserts, Deletes, Finds}

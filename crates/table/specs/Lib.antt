@@ -3,5 +3,9 @@ pub mod Places
 pub mod Steps
 pub mod Events
 pub mod Chain
+pub mod Refusal8
 pub mod History
 pub mod Demand3
+pub mod Joined
+pub mod Reached
+pub mod Answers

@@ -1,6 +1,6 @@
 -- The words of 01, "What is stored" and "Sizes": the three tables, the count and the stated sizes; links, deleters, the order of nodes, nodes in use.
 -- Rests on the record.
-use mathlib.Core.Bool.{Bool, true, false, cond}
+use mathlib.Core.Bool.{Bool, false, cond}
 use mathlib.Core.List.{List, _∷_}
 use Prim.Native.Nat.{ℕ, _+_, _-_, _*_, _/_, _%_}
 use lib.Dec.{ltb, eqb}

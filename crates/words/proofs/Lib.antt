@@ -1,3 +1,5 @@
 pub mod Links
 pub mod Past
 pub mod Unique
+pub mod LinksMet
+pub mod Ranges

@@ -1,17 +1,29 @@
--- What is asked of the words of one lent table, spelt with this crate's types. Rests on the table's Words.
-use mathlib.Core.Bool.{Bool, cond}
+-- What is asked of lent words, spelt with this crate's types. Rests on the table's Words.
+use mathlib.Core.Bool.{Bool, true, false, cond}
 use mathlib.Core.List.{List}
 use Prim.Native.Nat.{ℕ}
 use lib.ListN.{getD, set}
+use Rattle.record.specs.Record.{noNode}
 use Rattle.record.specs.declared.Node.{Node}
 use Rattle.record.specs.declared.Address.{Address}
-use Rattle.table.specs.Words.{swaps, below, equal}
+use Rattle.table.specs.Words.{Memory, linkAt, targetOf, isMarked, inUse, swaps, below, equal}
 use Rattle.words.specs.declared.Compared.{Compared}
+use Rattle.words.specs.declared.LinkRead.{LinkRead}
 use Rattle.words.specs.declared.Swapped.{Swapped}
 
 -- how a node stands to an address
 unfoldable pub comparedOf : List ℕ → Node → Address → Compared
 comparedOf addresses n a = record { below = below addresses n a; equal = equal addresses n a }
+
+-- a link read whose node or target is not in use
+abbrev pub noLink : LinkRead
+noLink = record { accepted = false; target = noNode; mark = false }
+
+-- target and mark of a node's link, if the target is in use: "the target of a link read by the row"
+unfoldable pub linkMet : Memory → Node → LinkRead
+linkMet m n =
+    let word = linkAt m n in
+    cond (inUse m (targetOf word)) (record { accepted = true; target = targetOf word; mark = isMarked word }) noLink
 
 -- the table after a swap, and its answer: whether it wrote, and the word found
 pub record SwapLeft : Type 0 where

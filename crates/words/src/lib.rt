@@ -1,15 +1,21 @@
-// The stated sizes and the words of the lent tables: whether sizes and tables fit, nodes in use, link words made and read, the order of nodes,
-// the swap. A word past the end of a table reads as 0, and writing it changes nothing. Rests on the place table's words.
+// The stated sizes and the words of the lent tables: whether sizes, tables and a record's fields fit, nodes in use, link words made and read, the order
+// of nodes, the swap. A word past the end of a table reads as 0, and writing it changes nothing. Rests on the place table's words.
 ghost use mathlib.Core.Path.{_≡_};
 ghost use Prim.Native.Nat.{_%_};
 ghost use lib.ListN.{getD, set};
 ghost use Rattle.table.specs.Words.{Memory, links≔, linkWord, targetOf, isMarked, inUse, rank, rankOf};
+ghost use Rattle.table.specs.Steps.{inRange};
 ghost use Rattle.table.specs.Events.{sizesFit, tablesFit};
 ghost use Rattle.words.specs.LentMemory.{lentMemory, sized};
-ghost use Rattle.words.specs.LentWords.{comparedOf, swapLeft, swapOf};
+ghost use Rattle.words.specs.LentWords.{comparedOf, linkMet, swapLeft, swapOf};
 use record::Address;
+use record::FAIL;
+use record::FINDS;
 use record::HEAD;
+use record::NO_ANSWER;
+use record::NO_NODE;
 use record::Node;
+use record::Record;
 use record::TAIL;
 
 // The stated sizes, and the count of nodes given out.
@@ -23,6 +29,13 @@ pub struct Sizes {
 pub struct Compared {
     pub below: bool,
     pub equal: bool,
+}
+
+// What reading a link meets: whether its target is in use, and then target and mark.
+pub struct LinkRead {
+    pub accepted: bool,
+    pub target: Node,
+    pub mark: bool,
 }
 
 // What a swap comes to: whether it wrote, and the word found.
@@ -150,4 +163,41 @@ pub fn swap(words: &mut [u32], n: Node, expected: u32, new: u32) -> Swapped
         wrote: false,
         found,
     }
+}
+
+// The link word of a node, read: accepted if its target is in use.
+pub fn link_met(links: &[u32], sizes: Sizes, n: Node) -> LinkRead
+    ensures { λ r. ⌜ ((m : Memory) → r ≡ linkMet (sized sizes (links≔ (now (links .entry)) m)) n) ⌝ }
+{
+    let word = word_at(links, n);
+    let target = target_of(word);
+    if in_use(links, sizes, target) {
+        return LinkRead {
+            accepted: true,
+            target,
+            mark: is_marked(word),
+        };
+    }
+    LinkRead {
+        accepted: false,
+        target: NO_NODE,
+        mark: false,
+    }
+}
+
+// Whether the fields of a record are in their ranges: those of any place, then the kind at the places of a search, the answer at the last two.
+pub fn in_range(old: Record) -> bool
+    ensures { λ r. ⌜ r ≡ inRange old ⌝ }
+{
+    let place = old.lost.place;
+    let pending = old.lost.pending;
+    let kind = old.kept.kind;
+    let ranged = (place <= 19) & (kind <= 2) & (pending <= 3) & (old.kept.result <= 2);
+    if place <= 2 {
+        return ranged & (kind != FINDS);
+    }
+    if place < 18 {
+        return ranged;
+    }
+    ranged & (pending != NO_ANSWER) & ((place != 18) | (pending != FAIL))
 }

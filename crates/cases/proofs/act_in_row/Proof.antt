@@ -1,5 +1,5 @@
 -- `act_in_row` meets its contract: a walk of its MIR by hand. The array is taken apart, its first records are lent for a lifetime of their own to
--- `lent::act_in` (`Calls`), had back once it is over (`Rows`), and the array is made whole. Assumes nothing.
+-- `lent::act_in` (`ActsInRow`), had back once it is over (`RecordArray`), and the array is made whole. Assumes nothing.
 use Rattle.walks.proofs.Kit.{Lfts, Shares, _≡_, refl, sym, ap, subst, _∙_, ℕ, _<_, _≤_, _^_, [], _∷_, List, _++_, length, URA, fullShare, w64, Val}
 use Rattle.walks.proofs.Kit.{vint, SProp, ent, id⊢, Memory, Routine, Heap, WpFn, Tables, Atoms, Fun, givenOf, Given, ⋆, _$_, _∵_, !, qed, by, move}
 use Rattle.walks.proofs.Kit.{keep, rewrite, suffices, frame, look, init, of-opd, agg, and-then, no-more, assigns, land, returns, params1, pass1}
@@ -10,28 +10,31 @@ use Rattle.walks.proofs.Locals.{spot, leaving, environment, holds, slot, local-
 use Rattle.walks.proofs.Operands.{at-local, copied, lends-on}
 use Rattle.walks.proofs.Values.{typed-as, ByValue, IsA, of-struct, of-width, with-value, answers}
 use Rattle.walks.proofs.Parameters.{given, Parameters, Told, Ends, ends, Walk, meets-by-walk, tables-over, cites, enters}
-use Rattle.walks.proofs.Tables.{after-tables, LentTables, lent-tables, SameLengths, Last, tables-apart, last-together}
+use Rattle.walks.proofs.Tables.{after-tables, LentTables, lent-tables, memory-lent, last-values, SameLengths, fitting, Last, tables-apart}
+use Rattle.walks.proofs.Tables.{last-together}
 use lib.ListN.{drop}
 use denote.Struct.Laws as struct
 use Rattle.record.specs.declared.Record.{Record}
 use Rattle.record.specs.declared.Event.{Event}
 use Rattle.record.proofs.Record as record-type
+use Rattle.table.specs.Words as words
+use Rattle.table.specs.Events.{stateOf, leavesIn, event as eventIn}
 use Rattle.words.specs.declared.Sizes.{Sizes}
+use Rattle.words.specs.LentMemory.{sized}
 use Rattle.lent.specs.declared.Said.{Said}
-use Rattle.lent.specs.Lent.{leaves, actIn}
 use Rattle.lent.proofs.Acts.{event-values, sizes-values, said-values}
 use Rattle.lent.proofs.act_in.Symbol as act-def
 use Rattle.lent.proofs.act_in.Symbol.{name as #act-in}
 use Rattle.lent.proofs.act_in.Met as act-thm
-use Rattle.tables.specs.declared.Acted.{Acted}
-use Rattle.tables.proofs.Acted as acted
-use Rattle.tables.proofs.Acted.Laws as acted-laws
-use Rattle.tables.proofs.Rows.{array-values, apart, whole, lends, had-back, had-length}
-use Rattle.tables.proofs.Calls.{Acting, acts}
-use Rattle.tables.proofs.act_in_row.Key.{name as #own}
-use Rattle.tables.proofs.act_in_row as fn
-use Rattle.tables.proofs.act_in_row.Statement as stated
-use Rattle.tables.proofs.act_in_row.Code as code
+use Rattle.cases.specs.declared.RecordsLeft.{RecordsLeft}
+use Rattle.cases.proofs.RecordsLeft as records-left
+use Rattle.cases.proofs.RecordsLeft.Laws as records-left-laws
+use Rattle.cases.proofs.RecordArray.{array-values, apart, whole, lends, had-back, had-length}
+use Rattle.cases.proofs.ActsInRow.{ActingIn, acts-in}
+use Rattle.cases.proofs.act_in_row.Key.{name as #own}
+use Rattle.cases.proofs.act_in_row as fn
+use Rattle.cases.proofs.act_in_row.Statement as stated
+use Rattle.cases.proofs.act_in_row.Code as code
 
 abbrev params : Parameters (fn.signature .params) (fn.ended .kept)
 params = after-tables 3 tt tt tt (
@@ -43,11 +46,11 @@ params = after-tables 3 tt tt tt (
 abbrev at : ℕ → ℕ → ℕ
 at = spot 19
 
-abbrev acted-values : ByValue
-acted-values = of-struct acted.the-type acted-laws.the-laws acted-laws.the-plain
+abbrev left-values : ByValue
+left-values = of-struct records-left.the-type records-left-laws.the-laws records-left-laws.the-plain
 
-abbrev actedOf : List Record → Said → Acted
-actedOf records said = record { records = records; said = said }
+abbrev leftOf : List Record → Said → RecordsLeft
+leftOf records said = record { records = records; said = said }
 
 -- ---- the records as a field of what is given back: the same machine value, spelt with the field's row
 
@@ -69,14 +72,14 @@ field-is xs vs p =
     (p .0, ((p .1 .0 .0, length-map xs (record-type.the-field .into) ∙ p .1 .0 .1), each-into xs (p .0) (p .1 .1)))
 
 abbrev records-laws : FLaws (array-field record-type.the-field 64)
-records-laws = acted-laws.the-laws .0
+records-laws = records-left-laws.the-laws .0
 
 spelt-so : (xs : List Record) → IsA array-values xs → array-values .val xs ≡ records-laws .val (into xs)
 spelt-so xs is = ap only (records-laws .tells (into xs) _ (field-is xs _ is))
 
-acted-is : (xs : List Record) (t : Said) → IsA array-values xs → IsA said-values t → IsA acted-values (actedOf xs t)
-acted-is xs t is is-t =
-    struct.owes acted.the-type acted-laws.the-laws (actedOf xs t)
+left-is : (xs : List Record) (t : Said) → IsA array-values xs → IsA said-values t → IsA left-values (leftOf xs t)
+left-is xs t is is-t =
+    struct.owes records-left.the-type records-left-laws.the-laws (leftOf xs t)
     (subst (Is FR (into xs)) (records-laws .tells (into xs) _ (field-is xs _ is)) (field-is xs _ is), (is-t, tt))
 
 -- so few records have room
@@ -119,27 +122,28 @@ module _ {M : Type 1} (𝓤 : URA M) (H : Heap 𝓤) (A : Atoms 𝓤) (W : Given
   abbrev ys : List Record
   ys = take n xs
 
-  -- what is promised
-  abbrev Promise : (addresses links deleters : List ℕ) → List Record → Said → Type 0
-  Promise ads ls ds rs t = (leaves ads ls ds (take n rs) t ≡ actIn (ts .addresses .now) (ts .links .now) (ts .deleters .now) z ys e)
+  -- what is promised, with the tables' last words in m
+  abbrev Promise : words.Memory → List Record → Said → Type 0
+  Promise m rs t = (leavesIn (stateOf (sized (t .sizes) m) (take n rs)) (t .outcome) ≡ eventIn (stateOf (memory-lent ts z) ys) e)
       × (drop n rs ≡ drop n xs)
 
-  promised : (ads ls ds : List ℕ) (rs : List Record) (t : Said)
-      → leaves ads ls ds rs t ≡ actIn (ts .addresses .now) (ts .links .now) (ts .deleters .now) z ys e
-      → length rs ≡ n → Promise ads ls ds (rs ++ drop n xs) t
-  promised ads ls ds rs t so len = (ap (λ (l : List Record). leaves ads ls ds l t) (take-at rs (drop n xs) n len) ∙ so, drop-at rs (drop n xs) n len)
+  promised : (m : words.Memory) (rs : List Record) (t : Said)
+      → leavesIn (stateOf (sized (t .sizes) m) rs) (t .outcome) ≡ eventIn (stateOf (memory-lent ts z) ys) e
+      → length rs ≡ n → Promise m (rs ++ drop n xs) t
+  promised m rs t so len =
+      (ap (λ l. leavesIn (stateOf (sized (t .sizes) m) l) (t .outcome)) (take-at rs (drop n xs) n len) ∙ so, drop-at rs (drop n xs) n len)
 
-  exits : (t : Acted) (ads ls ds : List ℕ) → IsA acted-values t → Promise ads ls ds (t .records) (t .said) → SameLengths ts ads ls ds
-      → ent 𝓤 (⋆ 𝓤 H A (Last 𝓤 ts ads ls ds [])) (Result (acted-values .val t))
-  exits t ads ls ds is so same =
-      qed W (Last 𝓤 ts ads ls ds []) ∵ suffices ! _ (ends fn.ended params 𝓤 H A (fn.clauses 𝓤 H A at-mem run) κs qs tt a tt W _ t
-      (ads, (ls, (ds, (tt, (tt, (tt, (tt, tt))))))) (same .addresses, (same .links, (same .deleters, (tt, (tt, (tt, (tt, tt)))))))) $
+  exits : (t : RecordsLeft) (m : words.Memory) → IsA left-values t → Promise m (t .records) (t .said) → SameLengths ts m
+      → ent 𝓤 (⋆ 𝓤 H A (Last 𝓤 ts m [])) (Result (left-values .val t))
+  exits t m is so same =
+      qed W (Last 𝓤 ts m []) ∵ suffices ! _ (ends fn.ended params 𝓤 H A (fn.clauses 𝓤 H A at-mem run) κs qs tt a tt W _ t
+      (last-values m (tt, (tt, (tt, (tt, tt))))) (fitting same (tt, (tt, (tt, (tt, tt)))))) $
       says ! so $ frame ! $
       -- [the last deleters; the last links; the last addresses]
       nothing ! $ with-value ! event-values e is-e $ with-value ! (of-width w64) n (refl, n-fits) $ with-value ! array-values xs is-xs $
-      with-value ! sizes-values z is-z $ last-together ! ts $ answers ! acted-values t is
+      with-value ! sizes-values z is-z $ last-together ! ts m $ answers ! left-values t is
 
-  walk : (𝓣 : Tables 𝓤 H) → Triple 𝓤 (𝓣 .C #act-in) (Acting 𝓤 H A at-mem run)
+  walk : (𝓣 : Tables 𝓤 H) → Triple 𝓤 (𝓣 .C #act-in) (ActingIn 𝓤 H A at-mem run)
       → Walk fn.ended params 𝓤 H A (fn.clauses 𝓤 H A at-mem run) κs qs tt a tt W code.function 𝓣
   walk 𝓣 known ad =
       let En = environment (code.function .locals) ad in params1 ! $
@@ -165,11 +169,11 @@ module _ {M : Type 1} (𝓤 : URA M) (H : Heap 𝓤) (A : Atoms 𝓤) (W : Given
       assigns ! (agg ! (and-then ! (copied ! (at 7 16) refl) (and-then ! (copied ! (at 6 6) refl) (no-more !)))) (at-local !)
       (init ! (at 7 17) refl (tt, (tt, (record { fits = room .0 }, tt)))) $
       lends n xs (local-at En 8 .1) room (λ α γ. move ! (4 ∷ 5 ∷ 6 ∷ 7 ∷ 8 ∷ 9 ∷ []) $
-      acts 𝓤 H A at-mem run W ts (α ∷ []) fullShare z (record { ptr = (local-at En 8 .1, 0); name = γ; now = ys }) e
+      acts-in 𝓤 H A at-mem run W ts (α ∷ []) fullShare z (record { ptr = (local-at En 8 .1, 0); name = γ; now = ys }) e
       (fmOf 𝓤 H (W .laws) 𝓣) known is-z is-e
       (and-then ! (copied ! (at 3 11) refl) (and-then ! (copied ! (at 3 13) refl) (and-then ! (copied ! (at 3 15) refl)
       (and-then ! (copied ! (at 2 4) refl) (and-then ! (copied ! (at 3 17) refl) (and-then ! (copied ! (at 2 7) refl) (no-more !)))))))
-      (λ t ads ls ds rs so same len-r is-t.
+      (λ t m rs so same len-r is-t.
       -- [κ; the row's last records; the tokens; the last deleters; the last links; the last addresses; the loan; the other records; _18 …]
       land ! (at-local !) (init ! (at 8 9) refl (typed-as W said-values t is-t)) $ move ! (0 ∷ 6 ∷ 1 ∷ 7 ∷ []) $
       had-back n xs rs (local-at En 8 .1) α γ len-r (whole (rs ++ drop n xs) (local-at En 8 .1) (had-length n xs rs len-r ∙ len) (λ is-rs.
@@ -178,16 +182,16 @@ module _ {M : Type 1} (𝓤 : URA M) (H : Heap 𝓤) (A : Atoms 𝓤) (W : Given
       assigns ! (of-opd ! (copied ! (at 4 8) refl)) (at-local !)
       (init ! (at 4 18) refl (typed-as W array-values (rs ++ drop n xs) is-rs)) $
       rewrite ! (at 4 18) (λ (u : Val). slot (local-at En 18) (holds u)) (spelt-so (rs ++ drop n xs) is-rs) refl $
-      let is-acted = acted-is (rs ++ drop n xs) t is-rs is-t in
+      let is-left = left-is (rs ++ drop n xs) t is-rs is-t in
       assigns ! (agg ! (and-then ! (copied ! (at 4 18) refl) (and-then ! (copied ! (at 4 9) refl) (no-more !)))) (at-local !)
-      (init ! (at 4 0) refl (typed-as W acted-values (actedOf (rs ++ drop n xs) t) is-acted)) $
+      (init ! (at 4 0) refl (typed-as W left-values (leftOf (rs ++ drop n xs) t) is-left)) $
       returns ! {Kf = Result} (look ! (at 4 0) refl) $ keep ! (leaving 19 4) $
       releases ! En (holds _ ∷ holds _ ∷ holds _ ∷ holds _ ∷ holds _ ∷ holds _ ∷ holds _ ∷ holds _ ∷ holds _ ∷ holds _ ∷ holds _ ∷ holds _
       ∷ holds _ ∷ holds _ ∷ holds _ ∷ holds _ ∷ holds _ ∷ holds _ ∷ holds _ ∷ []) (
-      by ! (exits (actedOf (rs ++ drop n xs) t) ads ls ds is-acted (promised ads ls ds rs t so (len-r ∙ many)) same)))))))
+      by ! (exits (leftOf (rs ++ drop n xs) t) m is-left (promised m rs t so (len-r ∙ many)) same)))))))
 
 meets : {M : Type 1} (𝓤 : URA M) (H : Heap 𝓤) (A : Atoms 𝓤) → Given 𝓤 H A → (at-mem : Memory → SProp 𝓤) (run : Routine → Fun 𝓤) (𝓣 : Tables 𝓤 H)
-    → Triple 𝓤 (𝓣 .C #act-in) (Acting 𝓤 H A at-mem run)
+    → Triple 𝓤 (𝓣 .C #act-in) (ActingIn 𝓤 H A at-mem run)
     → Meets 𝓤 H A fn.signature (WpFn 𝓤 H (𝓣 .C) (𝓣 .Λ) code.function) (fn.spec 𝓤 H A at-mem run)
 meets 𝓤 H A W at-mem run 𝓣 known =
     meets-by-walk fn.ended params 𝓤 H A (fn.clauses 𝓤 H A at-mem run) W code.function 𝓣 (λ κs a. a .1 .1 .1 .1 .1 .0 ≤ 64) (λ κs a g. id⊢ 𝓤 _)

@@ -9,7 +9,7 @@ use Rattle.walks.proofs.Kit.{RefT, sliceVal, MutSlice, Room, place-is, nothing,
 use Rattle.walks.proofs.Record.{record-values, R, records, size}
 use Rattle.walks.proofs.Locals.{spot, leaving, environment, bare, holds, slot, local-at, after, releases}
 use Rattle.walks.proofs.Operands.{at-local, copied, field-of, lends-on}
-use Rattle.walks.proofs.Values.{typed-as, ByValue, IsA, of-struct, of-enum, with-value, answers}
+use Rattle.walks.proofs.Values.{typed-as, ByValue, IsA, of-enum, with-value, answers}
 use Rattle.walks.proofs.Parameters.{given, lent-slice, Parameters, Told, Ends, ends, Walk, meets-by-walk, tables-over, cites, enters}
 use Rattle.walks.proofs.Rows.{takes, puts, row-opened, row-closed}
 use Rattle.walks.proofs.Fresh.{Makes-fresh, makes-fresh}
@@ -42,7 +42,8 @@ use Rattle.lent.specs.declared.Said.{Said}
 use Rattle.lent.proofs.Said as said
 use Rattle.lent.proofs.Said.Laws as said-laws
 use Rattle.lent.proofs.Events.{past-count, in-row}
-use Rattle.lent.proofs.Acts.{process-values, action-values, sizes-values, said-values, handed-values, advanced-is, said-is, Acting, acts}
+use Rattle.lent.proofs.Acts.{process-values, action-values, event-values, sizes-values, said-values, handed-values, advanced-is, said-is}
+use Rattle.lent.proofs.Acts.{Acting, acts}
 use Rattle.lent.proofs.hand_back.Symbol as hand-back-def
 use Rattle.lent.proofs.hand_back.Symbol.{name as #hand-back}
 use Rattle.lent.proofs.hand_back.Met as hand-back-thm
@@ -51,10 +52,7 @@ use Rattle.lent.proofs.act_in as fn
 use Rattle.lent.proofs.act_in.Statement as stated
 use Rattle.lent.proofs.act_in.Code as code
 
--- the event, and its parts
-abbrev event-values : ByValue
-event-values = of-struct event.the-type event-laws.the-laws event-laws.the-plain
-
+-- the parts of the event
 process-is : (e : Event) → IsA event-values e → IsA process-values (e .process)
 process-is e is = struct.owed event.the-type event-laws.the-laws e _ is .0
 

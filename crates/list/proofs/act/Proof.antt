@@ -3,7 +3,6 @@ use Rattle.list.proofs.Judged.{refuses, acts, able}
 use borrow.Author.Needs.{needs}
 use Rattle.list.proofs.act.Statement.{statement}
 use Rattle.list.proofs.act.Tie as tie
-use Rattle.list.proofs.Judged.{refuses, acts, able}
 
 judge-requires : tie.Need-judge-requires
 judge-requires c κs = search needs

@@ -77,7 +77,7 @@ asks-insert x q = ap kindNumbered q
 pub asks-delete : (x : Action) → kindOf x ≡ Deletes → kindAsked x ≡ delete
 asks-delete x q = ap kindNumbered q
 
-asks-find : (x : Action) → kindOf x ≡ Finds → kindAsked x ≡ find
+pub asks-find : (x : Action) → kindOf x ≡ Finds → kindAsked x ≡ find
 asks-find x q = ap kindNumbered q
 
 module _ (ρ : Played) where

@@ -1,28 +1,32 @@
--- The struck sentence of demand 3: at most one release of a node is answered true, and where none is, its deleter's or else its marker's is
--- current. Rests on Winners and Reads.
-use mathlib.Core.Path.{_≡_, refl, sym, _∙_, ap, subst}
-use mathlib.Core.Logic.{_⊎_, inl, inr}
+-- The struck sentence of demand 3: a node is marked at most once; a release of it answered true has the mark between its request and its answer, and
+-- there is at most one; where there is none, the deleter's or else the marker's is current. Rests on Strikes and Reads.
+use mathlib.Core.Path.{_≡_, refl, sym, _∙_, ap}
+use mathlib.Core.Logic.{inl, inr}
 use mathlib.Core.Bool.{true, false, false≢true, Bool-discrete}
 use mathlib.Core.Option.{Option, none, some}
-use Prim.Native.Nat.{ℕ, zero, suc, _+_, _<_}
+use Prim.Native.Nat.{ℕ, zero, suc, _+_, _%_, _<_}
 use native.Mathlib.Omega.{arith}
+use borrow.Author.Tests.{eq-eqb}
 use Rattle.record.specs.Record.{node, process, address, True}
 use Rattle.record.specs.declared.Node.{Node}
-use Rattle.record.specs.declared.Process.{Process}
 use Rattle.record.specs.declared.Event.{Event}
-use Rattle.table.specs.Words.{Memory, linkAt, isMarked, noDeleter, deleterWord}
-use Rattle.table.specs.Chain.{Struck}
+use Rattle.table.specs.Words.{Memory, linkAt, isMarked}
 use Rattle.table.specs.Events.{State}
+use Rattle.table.specs.Chain.{Struck}
 use Rattle.table.specs.History.{Kind, delete, Answer, Operation}
-use Rattle.table.specs.Demand3.{at, operation, Current, CurrentRelease, ReleasedBy, Marks, StruckOnce}
+use Rattle.table.specs.Demand3.{at, operation, Current, CurrentRelease, ReleasedBy, Marks, ReleasedAround, Fate, released}
+use Rattle.table.specs.Demand3.{deleter-current, marker-current, StruckOnce}
 use Rattle.basics.proofs.Tests.{not-true-false}
-use Rattle.table.proofs.Laws.Numbered.{deleterIn, ownIn, struck-marked, unmarked-plain}
+use Rattle.table.proofs.Laws.Numbered.{linkIn, deleterIn, ownIn, struck-marked, unmarked-plain, plain-unmarked}
 use Rattle.table.proofs.Invariant.Moments.{begins-between}
-use Rattle.table.proofs.Invariant.Played.{Played, memoryAt, recordThen, processAt, addressAsked, IsOperation, answerTo}
+use Rattle.table.proofs.Invariant.Known.{SawHeld}
+use Rattle.table.proofs.Invariant.Played.{Played, memoryAt, recordThen, processAt, addressAsked, askedAt, IsOperation, answerTo}
 use Rattle.table.proofs.Invariant.RunInvariant.{Busy}
-use Rattle.table.proofs.Invariant.HeldByPlace.{StruckBy, Changes, keeps-all, inserted, struck, changes}
-use Rattle.table.proofs.Invariant.Deleters.{Deleting, SignedBy}
-use Rattle.table.proofs.Invariant.Winners.{marker-open, signer, signer-open-or-true, Won, Strikes, strikes-now, won-once}
+use Rattle.table.proofs.Invariant.OpenOperations.{open-till}
+use Rattle.table.proofs.Invariant.HeldByPlace.{StruckBy, changes}
+use Rattle.table.proofs.Invariant.Deleters.{Deleting, delete-saw, SignedBy}
+use Rattle.table.proofs.Invariant.Winners.{marker-open, signer, signer-open-or-true, Won, won-at, strikes-now, won-once}
+use Rattle.table.proofs.Invariant.Strikes.{struck-by, plain-till, struck-at-once, strike-of}
 use Rattle.table.proofs.History.Reads.{kindAsked, operationFor, kind-deletes, asks-delete, operation-asked, operation-is}
 
 module _ (ρ : Played) where
@@ -52,9 +56,9 @@ module _ (ρ : Played) where
   current-release T n p r d node-is =
       record { current = current T p r (d .busy); deletes = asks-delete (ρ .events r .action) (d .kind); node = λ i. record { 0 = node-is i } }
 
-  released : (T s n p r : ℕ) (a : Answer) → Deleting ρ s p r → answerTo ρ T r ≡ some a → a .value ≡ True → ownIn (recordThen ρ (a .time) p) ≡ n
-      → ReleasedBy (ρ .start) (ρ .events) T (node n) r
-  released T s n p r a d h v node-is = record {
+  abbrev answered-true : (T s n p r : ℕ) (a : Answer) → Deleting ρ s p r → answerTo ρ T r ≡ some a → a .value ≡ True
+      → ownIn (recordThen ρ (a .time) p) ≡ n → ReleasedBy (ρ .start) (ρ .events) T (node n) r
+  answered-true T s n p r a d h v node-is = record {
     process = process p;
     address = address (addressAsked (ρ .events r .action));
     time = a .time;
@@ -63,7 +67,17 @@ module _ (ρ : Played) where
     node = λ i. record { 0 = node-is i };
   }
 
-  -- ---- at most one release is answered true
+  -- ---- marks
+
+  -- an event that marks n strikes it
+  strike : (t : ℕ) (n : Node) → Marks (ρ .start) (ρ .events) t n → (r : ℕ) × StruckBy ρ t r (n .0)
+  strike t n marks = struck-by ρ (changes ρ t)
+      (strikes-now ρ t (n .0) (unmarked-plain (M t) (n .0) (marks .0)) (struck-marked (M (suc t)) (n .0) (marks .1)) (changes ρ t))
+
+  struck-marks : {t r : ℕ} (n : Node) → StruckBy ρ t r (n .0) → Marks (ρ .start) (ρ .events) t n
+  struck-marks {t} n s = (plain-unmarked (M t) (n .0) (s .takes .held .plain), eq-eqb (linkIn (M (suc t)) (n .0) % 2) 1 (s .takes .marked))
+
+  -- ---- releases answered true
 
   won : (T : ℕ) (n : Node) (r : ℕ) (x : ReleasedBy (ρ .start) (ρ .events) T n r) → Won ρ T r (n .0) (record { time = x .time; value = True })
   won T n r x = record {
@@ -80,54 +94,55 @@ module _ (ρ : Played) where
       z : IsOperation ρ r × (o ≡ operationFor (ρ .events r) (answerTo ρ T r))
       z = operation-is ρ T r o (x .asked)
 
-  -- ---- where none is
+  -- its node was marked between its request and its answer
+  mark-within : (T : ℕ) (n : Node) (r : ℕ) → ReleasedBy (ρ .start) (ρ .events) T n r
+      → (t : ℕ) × (t < T) × Marks (ρ .start) (ρ .events) t n × ReleasedAround (ρ .start) (ρ .events) T t n r
+  mark-within T n r x = let z = strike-of ρ (won T n r x) in (
+    z .at-event,
+    omega (arith, z .before, won-at ρ (won T n r x) .1),
+    struck-marks n (z .strike),
+    record { release = x; before = z .after; after = z .before },
+  )
 
-  module _ (T : ℕ) (n : Node) (t : ℕ) (before : t < T) where
-    abbrev Settled : ℕ → Type 0
-    Settled r = ((r′ : ℕ) × ReleasedBy (ρ .start) (ρ .events) T n r′)
-        ⊎ (((p : Process) → deleterIn (M T) (n .0) ≡ deleterWord p → (r′ : ℕ) × CurrentRelease (ρ .start) (ρ .events) T n p r′)
-        × (deleterIn (M T) (n .0) ≡ noDeleter → CurrentRelease (ρ .start) (ρ .events) T n (ρ .events t .process) r))
+  -- ---- the fate of a struck node
 
-    -- the strike of n, by the delete r
-    module _ (r : ℕ) (s : StruckBy ρ t r (n .0)) where
-      -- a deleter: its release is open, or answered true
-      signer-settled : (p : ℕ) → deleterIn (M T) (n .0) ≡ p + 1 → Settled r
-      signer-settled p q = elim (signer-open-or-true ρ T before s p x) [
-        | inl y ↦ inr (
-          (λ p′ z. (
-            x .op,
-            subst (λ p. CurrentRelease (ρ .start) (ρ .events) T n (process p) (x .op)) (same p′ z)
-                (current-release T (n .0) p (x .op) (y .0) (y .1)),
-          )),
-          (λ z. absurd (omega arith)),
-        )
-        | inr y ↦ inl (x .op, released T (x .at-event) (n .0) p (x .op) (y .0) (x .deleting) (y .1) (y .2) (y .3))
-      ]
-        where
-          x : SignedBy ρ t T (n .0) p
-          x = signer ρ T before s p q
-
-          same : (p′ : Process) → deleterIn (M T) (n .0) ≡ deleterWord p′ → p ≡ p′ .0
-          same p′ z = omega arith
-
-      settled : (v : ℕ) → deleterIn (M T) (n .0) ≡ v → Settled r
-      settled zero q = let y = marker-open ρ T before s q in
-          inr ((λ p z. absurd (omega arith)), (λ z. current-release T (n .0) (processAt ρ t) r (y .0) (y .1)))
-      settled (suc p) q = signer-settled p (omega arith)
-
-    marks-settled : Marks (ρ .start) (ρ .events) t n → (r : ℕ) × Current (ρ .start) (ρ .events) t (ρ .events t .process) r × Settled r
-    marks-settled marks = by-change (changes ρ t)
-        (strikes-now ρ t (n .0) (unmarked-plain (M t) (n .0) (marks .0)) (struck-marked (M (suc t)) (n .0) (marks .1)) (changes ρ t))
+  -- the strike of n at event t, by the delete r
+  module _ (T : ℕ) (n : Node) {t r : ℕ} (before : t < T) (s : StruckBy ρ t r (n .0)) where
+    -- a deleter: its release is open, or answered true
+    signer-fate : (p : ℕ) → deleterIn (M T) (n .0) ≡ p + 1 → Fate (ρ .start) (ρ .events) T t n r
+    signer-fate p q = elim (signer-open-or-true ρ T before s p x) [
+      | inl y ↦ deleter-current (process p) q (x .op) early (current-release T (n .0) p (x .op) (y .0) (y .1))
+      | inr y ↦ released (x .op) (record {
+        release = answered-true T (x .at-event) (n .0) p (x .op) (y .0) (x .deleting) (y .1) (y .2) (y .3);
+        before = early;
+        after = omega (arith, x .from, open-till ρ (suc (x .at-event)) T p (x .op) (y .0) (x .deleting-after .busy) (y .1));
+      })
+    ]
       where
-        by-change : (x : Changes ρ t) → Strikes ρ x (n .0) → (r : ℕ) × Current (ρ .start) (ρ .events) t (ρ .events t .process) r × Settled r
-        by-change (keeps-all h) z = absurd z
-        by-change (inserted r x) z = absurd z
-        by-change (struck r n′ s) z = (r, current t (processAt ρ t) r (s .busy), settled r (rw z at s) (deleterIn (M T) (n .0)) refl)
+        x : SignedBy ρ t T (n .0) p
+        x = signer ρ T before s p q
+
+        saw : SawHeld M (x .op) (x .at-event) (askedAt ρ (x .op)) (n .0)
+        saw = delete-saw ρ (x .deleting) (n .0) (x .node-then) (λ z. absurd (omega (arith, s .takes .held .inner)))
+
+        -- it saw n plain, so before the strike
+        early : x .op < t
+        early = omega (arith, saw .since .after, plain-till ρ s (saw .w) (saw .plain))
+
+    fate : (v : ℕ) → deleterIn (M T) (n .0) ≡ v → Fate (ρ .start) (ρ .events) T t n r
+    fate zero q = let y = marker-open ρ T before s q in marker-current q (current-release T (n .0) (processAt ρ t) r (y .0) (y .1))
+    fate (suc p) q = signer-fate p (omega arith)
 
   pub struck-once : (T : ℕ) (n : Node) → StruckOnce (ρ .start) (ρ .events) T n
   struck-once T n = record {
-    once = λ r r′ x y. won-once ρ T (n .0) r r′ _ _ (won T n r x) (won T n r′ y);
-    struck = λ t before marks. marks-settled T n t before marks;
+    marked-once = λ t t′ l l′ m m′. struck-at-once ρ (strike t n m .1) (strike t′ n m′ .1);
+    around = mark-within T n;
+    once = λ t r r′ x y. won-once ρ T (n .0) r r′ _ _ (won T n r (x .release)) (won T n r′ (y .release));
+    struck = λ t before m. let s = strike t n m in record {
+      marker = s .0;
+      marking = current-release t (n .0) (processAt ρ t) (s .0) (record { busy = s .1 .busy; kind = s .1 .kind }) (s .1 .node);
+      fate = fate T n before (s .1) (deleterIn (M T) (n .0)) refl;
+    };
   }
 
 -- ---- a node struck since the start was marked by an event

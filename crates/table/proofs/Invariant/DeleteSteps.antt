@@ -9,7 +9,7 @@ use Rattle.table.proofs.Laws.Numbered.{linkIn, deleterIn, rankIn, follo
 use Rattle.table.proofs.Laws.Numbered.{linkSet, deleterSet, Marked, Plain, On, HeldIn, rank-head, deleter-at}
 use Rattle.table.proofs.Laws.Ranges.{pending-18}
 use Rattle.table.proofs.Invariant.Effects.{Orderly}
-use Rattle.table.proofs.Invariant.Moments.{Course, between, usedNow, signedNow, gone-since}
+use Rattle.table.proofs.Invariant.Moments.{Course, between, usedNow, targetNow, signedNow, gone-since}
 use Rattle.table.proofs.Invariant.Known.{Since, BeenOn, GoneSince, SawHeld, DeleteSays, DeleteBlank, DeleteEdge, DeletePast, DeleteAt}
 use Rattle.table.proofs.Invariant.Known.{delete-0, delete-1, delete-2, delete-5, delete-6, delete-7, delete-8, delete-9, delete-10, delete-13}
 use Rattle.table.proofs.Invariant.Known.{delete-15, delete-16, delete-17, delete-18, delete-19, DeleteKept, DeleteKnown, delete-says-true}
@@ -120,7 +120,7 @@ module _ {M : ℕ → Memory} {t : ℕ} (H : Course M (suc t)) (r p : ℕ) (rt :
   unfolding row wordMet placeOf
   from-6 x eq = if-eq Known (linkIn (M t) (currIn R) % 2) 1
       (λ e. goes-to (delete-8 (past⁺ x) (omega (arith, ap (λ m. linkIn m (currIn R)) eq))))
-      (λ e. goes-to (delete-7 (past⁺ x)))
+      (λ e. goes-to (delete-7 (past⁺ x) (rw eq (targetNow H₀ (x .saw .w) (x .saw .since .upto) (x .saw .on)))))
 
   from-7 : DeletePast M r t R → Known (goesAt p7 (M t) p R)
   unfolding row wordMet placeOf
@@ -225,7 +225,7 @@ module _ {M : ℕ → Memory} {t : ℕ} (H : Course M (suc t)) (r p : ℕ) (rt :
   delete-goes l pl ok (delete-2 x w z m) eq = from-2 x w z eq
   delete-goes l pl ok (delete-5 x m o) eq = from-5 x m o
   delete-goes l pl ok (delete-6 x) eq = from-6 x eq
-  delete-goes l pl ok (delete-7 x) eq = from-7 x
+  delete-goes l pl ok (delete-7 x u) eq = from-7 x
   delete-goes l pl ok (delete-8 x m) eq = from-8 x m
   delete-goes l pl ok (delete-9 x m) eq = from-9 x eq
   delete-goes l pl ok (delete-10 x d) eq = from-10 x d

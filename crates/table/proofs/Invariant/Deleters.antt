@@ -58,7 +58,7 @@ module _ (M : ℕ → Memory) (r t p : ℕ) (Q : Record) (st : Q .kept .status �
   unfolding row wordMet placeOf
   marker-goes n0 sk rs l marker-6 (delete-6 x) = if SignedOrMarker (isMarked (linkIn (M t) (currIn Q))) (λ z q. inr (λ u. marker-8))
       (λ z q. inr (λ u. marker-7))
-  marker-goes n0 sk rs l marker-7 (delete-7 x) = if SignedOrMarker (eqb (linkIn (M t) (currIn Q)) (plainTo (succIn Q)))
+  marker-goes n0 sk rs l marker-7 (delete-7 x u) = if SignedOrMarker (eqb (linkIn (M t) (currIn Q)) (plainTo (succIn Q)))
       (λ z q. inr (λ u. marker-6)) (λ z q. inr (λ u. marker-6))
   marker-goes n0 sk rs l marker-8 (delete-8 x m) = if SignedOrMarker (eqb (linkIn (M t) (predIn Q)) (plainTo (currIn Q)))
       (λ z q. inr (λ u. marker-9)) (λ z q. inr (λ u. marker-9))

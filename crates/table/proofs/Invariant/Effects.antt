@@ -1,23 +1,25 @@
 -- What a step may write, and that each such write keeps the list orderly. Rests on the laws Numbered and Reaching.
 use Rattle.table.proofs.Common.{_≡_, refl, sym, _∙_, ap, _≢_, _⊎_, inl, inr, false, ℕ, _+_, _/_, _%_, _≤_, _<_, arith, ℕ-discrete, node}
-use Rattle.table.proofs.Common.{Address, Memory, aboveAll, Write, nothing, noneLeft, written, givenOut}
+use Rattle.table.proofs.Common.{Address, Memory, addressLimit, aboveAll, Write, nothing, noneLeft, written, givenOut}
 use Rattle.table.proofs.Laws.Fitting.{Room, room-written, room-given}
 use Rattle.table.proofs.Laws.InUse.{used-written, next-inner, given-keeps-used}
 use Rattle.table.proofs.Laws.Reaching.{origin, further, cast, same-chain, same-chain-back, put-keeps, put-brings, cut-keeps, cut-brings}
-use Rattle.table.proofs.Laws.Numbered.{linkIn, deleterIn, rankIn, followsIn, Used, plainTo, markedTo, linkSet, deleterSet, Marked, Plain, On}
+use Rattle.table.proofs.Laws.Numbered.{linkIn, deleterIn, addressIn, rankIn, followsIn, Used, plainTo, markedTo, linkSet, deleterSet, Marked}
+use Rattle.table.proofs.Laws.Numbered.{Plain, On, address-written, given-address-else}
 use Rattle.table.proofs.Laws.Numbered.{rank-inner, rank-tail, link-at, link-else, link-signed, deleter-at, deleter-else, deleter-linked}
 use Rattle.table.proofs.Laws.Numbered.{rank-written, nextIn, used-not-next, given-address, given-link-else, given-deleter-else}
 use Rattle.table.proofs.Laws.Numbered.{given-rank-else}
 
 -- ---- what always holds of the memory, and what an event keeps of it
 
--- the chain from head rises, its nodes are in use, and none of them has a deleter without a mark
+-- the chain from head rises, its nodes are in use and have addresses within the limit, and none of them has a deleter without a mark
 pub record Orderly (m : Memory) : Type 0 where
   pub room : Room m
   pub head : Plain m 0
   pub tail : linkIn m 1 ≡ plainTo 1
   pub rise : (n : ℕ) → On m n → n ≢ 1 → rankIn m n < rankIn m (followsIn m n)
   pub used : (n : ℕ) → On m n → Used m n
+  pub small : (n : ℕ) → On m n → addressIn m n < addressLimit
   pub signed : (n : ℕ) → On m n → deleterIn m n ≢ 0 → Marked m n
 
 -- of the nodes in use the address, a marked word and a deleter never change, and a node leaves the chain only marked
@@ -86,9 +88,10 @@ module _ {m : Memory} (i : Orderly m) (a w : ℕ) (u : Used m a) (plain : Plain 
 
   -- the invariant after such a write, from what it does to the chain
   orderly-after : (a ≡ 0 → w % 2 ≡ 0) → (a ≢ 1) → ((n : ℕ) → On m-written n → Used m n)
+      → ((n : ℕ) → On m-written n → addressIn m n < addressLimit)
       → ((n : ℕ) → On m-written n → deleterIn m n ≢ 0 → Marked m n)
       → ((n : ℕ) → On m-written n → n ≢ 1 → rankIn m n < rankIn m (followsIn m-written n)) → Orderly m-written
-  orderly-after hd a1 us sn ri = record {
+  orderly-after hd a1 us sm sn ri = record {
     room = room-written (linkSet a w) (i .room);
     head = elim (ℕ-discrete 0 a) [
       | yes q ↦ omega (arith, ap (linkIn m-written) q, word-written, hd (sym q))
@@ -97,6 +100,7 @@ module _ {m : Memory} (i : Orderly m) (a w : ℕ) (u : Used m a) (plain : Plain 
     tail = link-else m a w 1 (λ q. a1 (sym q)) ∙ i .tail;
     rise = λ n o h. omega (arith, ri n o h, rank-written (linkSet a w) m n, rank-written (linkSet a w) m (followsIn m-written n));
     used = λ n o. used-written (linkSet a w) m (node n) (us n o);
+    small = λ n o. omega (arith, address-written (linkSet a w) m n, sm n o);
     signed = λ n o h. ap (λ x. x % 2) (frozen-after n (sg n o h)) ∙ sg n o h;
   }
     where
@@ -106,7 +110,8 @@ module _ {m : Memory} (i : Orderly m) (a w : ℕ) (u : Used m a) (plain : Plain 
   -- one that leaves the chain as it is
   chain-stays : (a ≡ 0 → w % 2 ≡ 0) → a ≢ 1 → ((x : ℕ) → On m x → followsIn m-written x ≡ followsIn m x) → StaysOrderly m m-written
   chain-stays hd a1 same = (
-    orderly-after hd a1 (λ x o. i .used x (back o)) (λ x o. i .signed x (back o)) (λ x o k. rw (same x (back o)) (i .rise x (back o) k)),
+    orderly-after hd a1 (λ x o. i .used x (back o)) (λ x o. i .small x (back o)) (λ x o. i .signed x (back o))
+        (λ x o k. rw (same x (back o)) (i .rise x (back o) k)),
     keeps-after (λ x o. inl (same-chain (followsIn m) (followsIn m-written) same o)),
   )
     where
@@ -187,7 +192,7 @@ module _ {m : Memory} (i : Orderly m) where
     cuts-orderly : StaysOrderly m m-cut
     cuts-orderly = (
       orderly-after i a (plainTo s) cut-used cut-plain (λ q. omega arith) cut-pred-not-tail (λ x r. i .used x (cut-back r))
-          (λ x r. i .signed x (cut-back r)) (λ x r k. cut-rises x (cut-back r) k (ℕ-discrete x a)),
+          (λ x r. i .small x (cut-back r)) (λ x r. i .signed x (cut-back r)) (λ x r k. cut-rises x (cut-back r) k (ℕ-discrete x a)),
       keeps-after i a (plainTo s) cut-used cut-plain
           (λ x r. cut-stays x (cut-keeps (followsIn m) (followsIn m-cut) a c cut-before cut-pred-not-tail cut-not-tail cut-after cut-else r)),
     )
@@ -231,6 +236,10 @@ module _ {m : Memory} (i : Orderly m) where
     add-used y (inl r) = i .used y r
     add-used y (inr q) = rw q (x .used)
 
+    add-small : (y : ℕ) → On m y ⊎ (y ≡ n) → addressIn m y < addressLimit
+    add-small y (inl r) = i .small y r
+    add-small y (inr q) = rw q (omega (arith, rank-inner m n (x .inner), x .small))
+
     add-signed : (y : ℕ) → On m y ⊎ (y ≡ n) → deleterIn m y ≢ 0 → Marked m y
     add-signed y (inl r) d = i .signed y r d
     add-signed y (inr q) d = absurd (d (ap (deleterIn m) q ∙ x .unsigned))
@@ -260,7 +269,7 @@ module _ {m : Memory} (i : Orderly m) where
     adds-orderly : StaysOrderly m m-added
     adds-orderly = (
       orderly-after i a (plainTo n) add-used-pred add-plain-pred (λ q. omega arith) add-pred-not-tail (λ y r. add-used y (add-new r))
-          (λ y r. add-signed y (add-new r)) (λ y r k. add-rises y (add-new r) k (ℕ-discrete y a) (ℕ-discrete y n)),
+          (λ y r. add-small y (add-new r)) (λ y r. add-signed y (add-new r)) (λ y r k. add-rises y (add-new r) k (ℕ-discrete y a) (ℕ-discrete y n)),
       keeps-after i a (plainTo n) add-used-pred add-plain-pred (λ y r. inl (add-keeps r)),
     )
 
@@ -273,6 +282,7 @@ module _ {m : Memory} (i : Orderly m) where
       tail = link-signed m n (p + 1) 1 ∙ i .tail;
       rise = λ x r h. omega (arith, i .rise x (back r) h, rank-written f m x, rank-written f m (followsIn m′ x), ap (rankIn m) (same x));
       used = λ x r. used-written f m (node x) (i .used x (back r));
+      small = λ x r. omega (arith, address-written f m x, i .small x (back r));
       signed = λ x r h. ap (λ y. y % 2) (link-signed m n (p + 1) x) ∙ sg x r h (ℕ-discrete x n);
     },
     record {
@@ -406,6 +416,7 @@ module _ {m : Memory} (i : Orderly m) (a : Address) (spare : noneLeft m ≡ fals
         ap (rankIn (givenOut a m)) (same x (given-back r)),
       );
       used = λ x r. given-keeps-used a m (node x) (i .used x (given-back r));
+      small = λ x r. omega (arith, given-address-else a m x (old x (given-back r)), i .small x (given-back r));
       signed = λ x r h. ap (λ y. y % 2) (given-link-else a m x (old x (given-back r)))
           ∙ i .signed x (given-back r) (λ e. h (given-deleter-else a m x (old x (given-back r)) ∙ e));
     },

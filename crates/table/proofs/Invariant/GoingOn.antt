@@ -25,7 +25,7 @@ same : {l : Place} {R : Record} {lost : Lost} → GoesOn l R (recordOf lost (R .
 same = record { status = refl; address = refl; says = refl; node = λ h. refl }
 
 -- whatever the test says
-either {ℓ} : {A : Type ℓ} (P : A → Type 0) (b : Bool) {x y : A} → P x → P y → P (cond b x y)
+pub either {ℓ} : {A : Type ℓ} (P : A → Type 0) (b : Bool) {x y : A} → P x → P y → P (cond b x y)
 either P true f g = f
 either P false f g = g
 

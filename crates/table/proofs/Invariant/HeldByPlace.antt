@@ -97,7 +97,7 @@ module _ {M : ℕ → Memory} {t : ℕ} (H : Course M t) (r p : ℕ) (R : Record
   delete-held k l (delete-2 x w z e) = unlinks p2 refl e (edge-on H (k .small) z)
   delete-held k l (delete-5 x y z) = still p5 refl
   delete-held k l (delete-6 x) = still p6 refl
-  delete-held k l (delete-7 x) = if-eq (λ f. HeldByPlace (M t) (written f (M t)) p7 R) (linkIn (M t) (currIn R)) (plainTo (succIn R))
+  delete-held k l (delete-7 x u) = if-eq (λ f. HeldByPlace (M t) (written f (M t)) p7 R) (linkIn (M t) (currIn R)) (plainTo (succIn R))
       (λ q. removed (refl, q) (rw named at (strikes-held i (currIn R) (succIn R) two (on (omega arith)) q)))
       (λ q. stays (λ d. false≢true (ap (λ x. eqb (number x) 4) (d .0))) (λ d. q (d .1)) (unfold written in (rests-held (M t))))
     where
@@ -242,7 +242,7 @@ module _ (ρ : Played) where
       })
     where
       its-node : DeleteAt M r t (P t) (actor t) p7 → actorNode t ≡ currIn (actor t)
-      its-node (delete-7 x) = x .node
+      its-node (delete-7 x u) = x .node
   by-kind t r x q b (finding o) st l pl (removed d h) = elim (rw (pl ∙ d .0) at (o .place st)) [ ]
 
   pub changes : (t : ℕ) → Changes t

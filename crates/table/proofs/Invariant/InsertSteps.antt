@@ -204,6 +204,8 @@ module _ {M : ℕ → Memory} {t : ℕ} (H : Course M (suc t)) (r p : ℕ) (rt :
       new-after z = record {
         never = never⁺ M (z .never) (λ o. elim (does-new i d (rw eq at o)) [ inl o ↦ off′ o | inr z ↦ z .1 ]);
         plain = omega (arith, ln);
+        leads = let q : followsIn (M (suc t)) (ownIn R) ≡ currIn R = omega (arith, ln) in
+            rw q (usedNow H w (omega (arith, x .edge .since .upto)) (curr-was w x));
         unsigned = ap (λ m. deleterIn m (ownIn R)) eq ∙ deleter-linked (M t) (ownIn R) (plainTo (currIn R)) (ownIn R) ∙ z .unsigned;
       }
 

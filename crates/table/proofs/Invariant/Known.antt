@@ -4,7 +4,7 @@ use Rattle.table.proofs.Common.{_≡_, _≢_, _⊎_, Bool, true, false,
 use Rattle.table.proofs.Common.{NoAnswer, False, True, Fail, kindOf, Address, Kept, Record, Action, Insert, Delete, Find, Memory, aboveAll}
 use Rattle.table.proofs.Common.{Place, p0, p1, p2, p3, p4, p5, p6, p7, p8, p9, p10, p11, p12, p13, p14, p15, p16, p17, p18, p19, placeOf}
 use Rattle.table.proofs.Laws.Numbered.{linkIn, deleterIn, rankIn, predIn, currIn, succIn, ownIn, askedIn, plainTo, markedTo, Marked, Plain, On}
-use Rattle.table.proofs.Laws.Numbered.{HeldIn}
+use Rattle.table.proofs.Laws.Numbered.{followsIn, Used, HeldIn}
 use Rattle.table.proofs.Invariant.Moments.{GivenAt}
 
 -- a moment after the request at r, up to now
@@ -17,10 +17,11 @@ module _ (M : ℕ → Memory) where
   abbrev pub BeenOn : (t n : ℕ) → Type 0
   BeenOn t n = (w : ℕ) × (w ≤ t) × On (M w) n
 
-  -- given out and never yet on the chain
+  -- given out and never yet on the chain; its link leads to a node in use
   pub record New (t n : ℕ) : Type 0 where
     pub never : BeenOn t n → ⊥
     pub plain : Plain (M t) n
+    pub leads : Used (M t) (followsIn (M t) n)
     pub unsigned : deleterIn (M t) n ≡ 0
 
   abbrev pub HeldSince : (r t a : ℕ) → Type 0
@@ -126,7 +127,7 @@ module _ (M : ℕ → Memory) where
     delete-2 : DeleteBlank R → (w : ℕ) → DeleteEdge r t R w → linkIn (M t) (currIn R) ≡ markedTo (succIn R) → DeleteAt r t p R p2
     delete-5 : DeleteBlank R → SawHeld r t (askedIn R) (currIn R) → BeenOn t (predIn R) → DeleteAt r t p R p5
     delete-6 : DeletePast r t R → DeleteAt r t p R p6
-    delete-7 : DeletePast r t R → DeleteAt r t p R p7
+    delete-7 : DeletePast r t R → Used (M t) (succIn R) → DeleteAt r t p R p7
     delete-8 : DeletePast r t R → linkIn (M t) (currIn R) ≡ markedTo (succIn R) → DeleteAt r t p R p8
     delete-9 : DeletePast r t R → Marked (M t) (currIn R) → DeleteAt r t p R p9
     delete-10 : DeletePast r t R → deleterIn (M t) (currIn R) ≢ 0 → DeleteAt r t p R p10

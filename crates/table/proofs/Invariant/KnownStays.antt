@@ -1,5 +1,5 @@
 -- What is known of a process stays known through an event, and a search's edge after a step. Rests on KnownWrites.
-use Rattle.table.proofs.Common.{_≡_, sym, _∙_, ap, _≢_, _⊎_, inl, inr, ℕ, suc, _+_, _≤_, _<_, arith, ℕ-discrete, Fail, Record, Memory}
+use Rattle.table.proofs.Common.{_≡_, sym, _∙_, ap, _≢_, _⊎_, inl, inr, ℕ, suc, _+_, _/_, _≤_, _<_, arith, ℕ-discrete, Fail, Record, Memory}
 use Rattle.table.proofs.Common.{aboveAll, Write, nothing, written, Place, placeOf}
 use Rattle.table.proofs.Laws.Numbered.{linkIn, deleterIn, rankIn, followsIn, Used, currIn, succIn, ownIn, askedIn, plainTo, markedTo, linkSet}
 use Rattle.table.proofs.Laws.Numbered.{Marked, Plain, On, link-at}
@@ -109,9 +109,13 @@ module _ {M : ℕ → Memory} {t : ℕ} (H : Course M (suc t)) where
         | inl o ↦ new .never (t, omega arith, o)
         | inr z ↦ ha (z .1) (z .0)
       ]);
-      plain = omega (arith, ap (λ m. linkIn m x) eq, does-else orderly-now d x (λ o. new .never (t, omega arith, o)) ho, new .plain);
+      plain = omega (arith, link-stays, new .plain);
+      leads = rw (ap (λ y. y / 2) link-stays) (next-later .used (followsIn (M t) x) (new .leads));
       unsigned = ap (λ m. deleterIn m x) eq ∙ does-unsigned orderly-now d x (new .plain) ∙ new .unsigned;
     }
+      where
+        link-stays : linkIn (M (suc t)) x ≡ linkIn (M t) x
+        link-stays = ap (λ m. linkIn m x) eq ∙ does-else orderly-now d x (λ o. new .never (t, omega arith, o)) ho
 
     -- p's deleter is not written by another process
     pub other-deleter : (p x : ℕ) → p ≢ q → deleterIn (M t) x ≢ p + 1 → deleterIn (M (suc t)) x ≢ p + 1
@@ -230,7 +234,7 @@ module _ {M : ℕ → Memory} {t : ℕ} (H : Course M (suc t)) where
         (edge-curr course-now (k .small) s) (succIn R) m)
     deleteAt⁺ dl k l (delete-5 b x y) = delete-5 b (sawHeld⁺ M x) (beenOn⁺ M y)
     deleteAt⁺ dl k l (delete-6 x) = delete-6 (deletePast⁺ x)
-    deleteAt⁺ dl k l (delete-7 x) = delete-7 (deletePast⁺ x)
+    deleteAt⁺ dl k l (delete-7 x u) = delete-7 (deletePast⁺ x) (next-later .used (succIn R) u)
     deleteAt⁺ dl k l (delete-8 x m) = delete-8 (deletePast⁺ x) (word⁺ (x .saw .w) (currIn R) (x .saw .since .upto) (x .saw .on) (succIn R) m)
     deleteAt⁺ dl k l (delete-9 x m) = delete-9 (deletePast⁺ x) (saw-marked⁺ (x .saw) m)
     deleteAt⁺ dl k l (delete-10 x d) = delete-10 (deletePast⁺ x) (saw-signed⁺ (x .saw) d)

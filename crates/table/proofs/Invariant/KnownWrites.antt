@@ -90,7 +90,7 @@ module _ {M : ℕ → Memory} {t : ℕ} (H : Course M t) where
       (λ e. cuts (predIn R) (currIn R) (succIn R) (edge-on (k .small) s e) e m) (λ e. rests)
   delete-does p {R} k (delete-5 b x y) = rests
   delete-does p {R} k (delete-6 x) = rests
-  delete-does p {R} k (delete-7 x) = if-eq (Does (M t) p 0 (ownIn R)) (linkIn (M t) (currIn R)) (plainTo (succIn R))
+  delete-does p {R} k (delete-7 x u) = if-eq (Does (M t) p 0 (ownIn R)) (linkIn (M t) (currIn R)) (plainTo (succIn R))
       (λ e. strikes (currIn R) (succIn R) (sym (x .node))
       (inner (M (x .saw .w)) (currIn R) (askedIn R) (x .saw .named) (k .small))
       (onNow H (x .saw .w) (x .saw .since .upto) (x .saw .on) (omega arith)) e) (λ e. rests)

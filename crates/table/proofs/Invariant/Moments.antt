@@ -1,7 +1,8 @@
 -- A course of memories: what is known later of what was known before, and when what holds came to be. Rests on Effects.
-use Rattle.table.proofs.Common.{_≡_, refl, sym, _∙_, ap, _≢_, _⊎_, inl, inr, ℕ, suc, _+_, _%_, _≤_, _<_, arith, ℕ-discrete, decLt, le-ind}
+use Rattle.table.proofs.Common.{_≡_, refl, sym, _∙_, ap, _≢_, _⊎_, inl, inr, ℕ, suc, _+_, _/_, _%_, _≤_, _<_, arith, ℕ-discrete, decLt, le-ind}
 use Rattle.table.proofs.Common.{node, Memory, aboveAll}
-use Rattle.table.proofs.Laws.Reaching.{gap, once}
+use Rattle.table.proofs.Laws.InUse.{tail-in-use}
+use Rattle.table.proofs.Laws.Reaching.{further, gap, once}
 use Rattle.table.proofs.Laws.Numbered.{linkIn, deleterIn, rankIn, followsIn, Used, Marked, Plain, On, Holder, HeldIn, held-number, held-node}
 use Rattle.table.proofs.Laws.Numbered.{rank-inner, rank-head, rank-tail, nextIn, used-not-next}
 use Rattle.table.proofs.Invariant.Effects.{Orderly, Keeps}
@@ -128,6 +129,14 @@ module _ {M : ℕ → Memory} {t : ℕ} (H : Course M t) (w : ℕ) (le : w ≤ t
   -- a deleter stands only on a marked node
   pub signedNow : deleterIn (M t) b ≢ 0 → Marked (M t) b
   signedNow d = elim (later H w le .stays b o) [ inl r ↦ H .orderly t (omega arith) .signed b r d | inr s ↦ s ]
+
+-- the node to which one that was on the chain leads now is in use
+pub targetNow : {M : ℕ → Memory} {t : ℕ} (H : Course M t) (w : ℕ) → w ≤ t → {b : ℕ} → On (M w) b → Used (M t) (followsIn (M t) b)
+targetNow {M = M} {t} H w le {b} o = elim (ℕ-discrete b 1) [
+  | yes q ↦ let i = H .orderly t (omega arith) in
+      let tail : followsIn (M t) b ≡ 1 = omega (arith, ap (linkIn (M t)) q, i .tail) in rw tail (tail-in-use (i .room))
+  | no q ↦ let z = hindsight H w le o in usedNow H (z .0) (z .2) (further (z .3) q (ap (λ x. x / 2) (z .4)))
+]
 
 -- n was given out at event r, and is in use at t
 pub record GivenAt (M : ℕ → Memory) (r t n : ℕ) : Type 0 where

@@ -39,13 +39,13 @@ module _ (ρ : Played) where
   orderly t = orderly-at ρ t (invariant ρ t)
 
   -- an open operation is what its process works on
-  busy-of : (t r : ℕ) → IsOperation ρ r → r < t → answerTo ρ t r ≡ none → Busy ρ t (processAt ρ r) r
+  pub busy-of : (t r : ℕ) → IsOperation ρ r → r < t → answerTo ρ t r ≡ none → Busy ρ t (processAt ρ r) r
   busy-of t r is-operation l h = elim (invariant ρ t .process (processAt ρ r)) [
     | inl x ↦ absurd (x .done r is-operation l refl h)
     | inr w ↦ subst (λ z. Busy ρ t (processAt ρ r) z) (sym (w .busy .only r is-operation l refl h)) (w .busy)
   ]
 
-  status-of : (t p r : ℕ) → Busy ρ t p r → R t p .kept .status ≢ Idle
+  pub status-of : (t p r : ℕ) → Busy ρ t p r → R t p .kept .status ≢ Idle
   status-of t p r b = elim (invariant ρ t .process p) [ inl x ↦ absurd (x .done r (b .is) (b .before) (b .by) (b .opened)) | inr w ↦ w .status ]
 
   still-busy : (t p r : ℕ) → Busy ρ t p r → answerTo ρ (suc t) r ≡ none → Busy ρ (suc t) p r

@@ -63,6 +63,12 @@ handedOut ρ t = answerAt t (outcomeAt ρ t)
 
 -- ---- answers through an event
 
+-- none comes before its request
+pub no-answer-yet : (σ₀ : State) (e : ℕ → Event) (t r : ℕ) → t ≤ suc r → answer σ₀ e t r ≡ none
+unfolding answer
+no-answer-yet σ₀ e zero r h = refl
+no-answer-yet σ₀ e (suc t) r h = rw (no-answer-yet σ₀ e t r (omega arith), le-ltb r t (omega arith))
+
 first-none : (o : Option Answer) → firstOf o none ≡ o
 first-none none = refl
 first-none (some a) = refl
@@ -94,6 +100,4 @@ module _ (ρ : Played) where
   answer-now t r l q h = rw (h, lt-ltb r t l, eq-eqb (processAt ρ t) (processAt ρ r) (sym q))
 
   pub answer-early : (t r : ℕ) → t ≤ suc r → answerTo ρ t r ≡ none
-  unfolding answer
-  answer-early zero r h = refl
-  answer-early (suc t) r h = rw (answer-early t r (omega arith), le-ltb r t (omega arith))
+  answer-early = no-answer-yet (ρ .start) (ρ .events)

@@ -1,14 +1,15 @@
 -- What holds at every moment of a run: the list is orderly, and of every process it is known what its open operation rests on.
 -- Rests on EventCases, Played and the steps of inserts, deletes and finds.
 use mathlib.Core.Option.{Option·some-ne-none}
-use Rattle.table.proofs.Common.{_≡_, refl, sym, _∙_, ap, _≢_, _⊎_, inl, inr, true, false, none, some, ℕ, zero, suc, _+_, _≤_, _<_, arith}
+use Rattle.table.proofs.Common.{_≡_, refl, sym, _∙_, ap, _≢_, _⊎_, inl, inr, true, false, none, some, ℕ, zero, suc, _+_, _/_, _≤_, _<_, arith}
 use Rattle.table.proofs.Common.{ℕ-discrete, length, node, process, Idle, Running, Down, Inserts, requested, wentDown, restarted, kindOf}
 use Rattle.table.proofs.Common.{addressOf, Address, Record, Event, Action, Insert, Step, Outcome, Refused, Accepted, Memory, aboveAll, Write}
 use Rattle.table.proofs.Common.{nothing, nextNode, noneLeft, written, givenOut, Place, placeOf, inRange, statusNeeded, State, Leaves, leavesIn}
 use Rattle.table.proofs.Common.{event, Answer, answerAt, at, out}
 use Rattle.basics.proofs.Tests.{none-or-some}
 use Rattle.table.proofs.Laws.Fitting.{room-of}
-use Rattle.table.proofs.Laws.InUse.{next-inner, given-used}
+use Rattle.table.specs.Chain.{follows}
+use Rattle.table.proofs.Laws.InUse.{tail-in-use, next-inner, given-used, given-keeps-used}
 use Rattle.table.proofs.Laws.Meets.{Alone, deletes, finds, stops, restarts}
 use Rattle.table.proofs.Laws.Reaching.{origin}
 use Rattle.table.proofs.Laws.Numbered.{linkIn, deleterIn, rankIn, Used, ownIn, askedIn, plainTo, unmarked-plain, plain-unmarked, on-node}
@@ -155,7 +156,7 @@ module _ (ρ : Played) where
   -- ---- what an event leaves
 
   module _ (t : ℕ) {d : Leaves} (left : event (S t) (e t) ≡ d) where
-    outcome-is : outcomeAt ρ t ≡ d .outcome
+    pub outcome-is : outcomeAt ρ t ≡ d .outcome
     unfolding out
     outcome-is = ap (λ z. z .outcome) left
 
@@ -225,6 +226,7 @@ module _ (ρ : Played) where
         record {
           never = never⁺ M (new .never) (λ o. new .never (t, omega arith, given-back orderly-at a spare (rw eq at o)));
           plain = omega (arith, link-eq x (g .used), new .plain);
+          leads = rw (ap (λ y. y / 2) (link-eq x (g .used)), eq) (given-keeps-used a (M t) (follows (M t) (node x)) (new .leads));
           unsigned = ap (λ m. deleterIn m x) eq ∙ given-deleter-else a (M t) x (used-not-next (M t) x (g .used)) ∙ new .unsigned;
         },
         link-eq x (g .used),
@@ -317,6 +319,7 @@ module _ (ρ : Played) where
           never = never⁺ M (λ u. used-not-next (M t) n (usedNow (I .course) (u .0) (u .1) (u .2)) refl)
               (λ o. used-not-next (M t) n (orderly-at .used n (given-back orderly-at a spare (rw memory-eq at o))) refl);
           plain = omega (arith, link-eq);
+          leads = rw (ap (λ y. y / 2) link-eq) (tail-in-use (H .orderly (suc t) (omega arith) .room));
           unsigned = ap (λ m. deleterIn m n) memory-eq ∙ given-deleter a (M t) (orderly-at .room) spare;
         }
 
@@ -485,6 +488,7 @@ module _ (ρ : Played) where
     tail = ρ .quiet .tail;
     rise = λ n o h. ρ .quiet .rises (node n) (on-node m₀ (node n) o) (λ q. h (ap (λ n. n .0) q));
     used = λ n o. ρ .quiet .used (node n) (on-node m₀ (node n) o);
+    small = λ n o. ρ .quiet .small (node n) (on-node m₀ (node n) o);
     signed = λ n o d. elim (marked-or-not m₀ n) [
       | yes z ↦ z
       | no z ↦ absurd (d (ρ .quiet .unsigned (node n) (on-node m₀ (node n) o) (plain-unmarked m₀ n (omega arith))))

@@ -10,7 +10,7 @@ use Rattle.table.proofs.Invariant.OpenOperations.{orderly}
 
 -- ---- outcomes
 
-refused-same : (j k : ℕ) → Refused j ≡ Refused k → j ≡ k
+pub refused-same : (j k : ℕ) → Refused j ≡ Refused k → j ≡ k
 refused-same j k q = cc
 
 abbrev Not7 : Left → Type 0
@@ -24,7 +24,7 @@ does-not-7 m p R x = does-meets Not7 m p R x
     (λ s alone. accepted-not-refused)
 
 -- an event with tables that fit
-event-not-7 : (σ : State) (e : Event) → σ .memory .processes ≤ length (σ .row) → tablesFit (σ .memory) ≡ true → event σ e .outcome ≢ Refused 7
+pub event-not-7 : (σ : State) (e : Event) → σ .memory .processes ≤ length (σ .row) → tablesFit (σ .memory) ≡ true → event σ e .outcome ≢ Refused 7
 unfolding stored
 event-not-7 σ e row fit = rw (event-in-row σ e row)
     (act-judged Not7 (σ .memory) (e .process) (recordIn σ (e .process)) (e .action)
@@ -40,7 +40,9 @@ module _ (ρ : Played) where
   tables-fit t = let s = run-sizes-stay ρ t .memory in
       fit-of (memoryAt ρ t) (rw (s .nodes, s .processes) (sizes-of (ρ .start .memory) (ρ .quiet .tables))) (orderly ρ t .room)
 
+  pub row-long : (t : ℕ) → memoryAt ρ t .processes ≤ length (stateAt ρ t .row)
+  row-long t = let s = run-sizes-stay ρ t in omega (arith, ρ .quiet .row, s .memory .processes, s .row)
+
   pub never-refused-7 : (t : ℕ) → outcomeAt ρ t ≢ Refused 7
   unfolding out
-  never-refused-7 t = let s = run-sizes-stay ρ t in
-      event-not-7 (stateAt ρ t) (ρ .events t) (omega (arith, ρ .quiet .row, s .memory .processes, s .row)) (tables-fit t)
+  never-refused-7 t = event-not-7 (stateAt ρ t) (ρ .events t) (row-long t) (tables-fit t)

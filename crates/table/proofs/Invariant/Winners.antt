@@ -237,7 +237,7 @@ module _ (ρ : Played) where
 
   -- ---- an insert answered true took effect
 
-  abbrev Inserted : {t : ℕ} → Changes ρ t → ℕ → Type 0
+  abbrev pub Inserted : {t : ℕ} → Changes ρ t → ℕ → Type 0
   Inserted (keeps-all h) r = ⊥
   Inserted (inserted r′ x) r = r′ ≡ r
   Inserted (struck r′ n s) r = ⊥
@@ -249,7 +249,7 @@ module _ (ρ : Played) where
   wins-inserted T t r l (struck r′ n s) z = absurd z
 
   -- when the node given out at r came onto the chain
-  inserted-at : (r T n : ℕ) → GivenAt M r T n → BeenOn M T n → (t : ℕ) × (t < T) × Inserted (changes ρ t) r
+  pub inserted-at : (r T n : ℕ) → GivenAt M r T n → BeenOn M T n → (t : ℕ) × (t < T) × Inserted (changes ρ t) r
   inserted-at r T n g u = elim (decLe r (u .0)) [
     | yes l ↦ let z = comes-to-be (λ t. On (M t) n) (λ t. Inserted (changes ρ t) r) r (u .0) l
         (λ o. used-not-next (M r) n (orderly ρ r .used n o) (g .given))
@@ -296,7 +296,7 @@ module _ (ρ : Played) where
     pub node : ownIn (R (a .time) (processAt ρ r)) ≡ n
 
   module _ {T r n : ℕ} {a : Answer} (wn : Won T r n a) where
-    won-at : AnsweredAt ρ r a × (a .time < T)
+    pub won-at : AnsweredAt ρ r a × (a .time < T)
     won-at = answered ρ T r a (wn .is) (wn .answer)
 
     won-known : DeleteKnown M r (a .time) (processAt ρ r) (R (a .time) (processAt ρ r))
@@ -305,10 +305,10 @@ module _ (ρ : Played) where
     won-says : SawHeld M r (a .time) (askedIn (R (a .time) (processAt ρ r))) n × (deleterIn (M (a .time)) n ≡ processAt ρ r + 1)
     won-says = rw (wn .node) at (delete-says (won-at .0 .place) (won-at .0 .status) won-known .if-true (sym (won-at .0 .value) ∙ wn .value))
 
-    won-saw : SawHeld M r (a .time) (askedIn (R (a .time) (processAt ρ r))) n
+    pub won-saw : SawHeld M r (a .time) (askedIn (R (a .time) (processAt ρ r))) n
     won-saw = won-says .0
 
-    won-inner : 2 ≤ n
+    pub won-inner : 2 ≤ n
     won-inner = inner (M (won-saw .w)) n (askedIn (R (a .time) (processAt ρ r))) (won-saw .named) (won-known .kept .small)
 
     won-deleter : (t : ℕ) → a .time ≤ t → deleterIn (M t) n ≡ processAt ρ r + 1
@@ -316,7 +316,7 @@ module _ (ρ : Played) where
         (usedNow (course ρ (a .time)) (won-saw .w) (won-saw .since .upto) (won-saw .on)) (λ q. absurd (omega (arith, won-says .1)))
         ∙ won-says .1
 
-    won-marked : Marked (M (a .time)) n
+    pub won-marked : Marked (M (a .time)) n
     won-marked = signedNow (course ρ (a .time)) (won-saw .w) (won-saw .since .upto) (won-saw .on) (λ q. absurd (omega (arith, won-says .1)))
 
     -- it is the one that wrote the deleter
@@ -377,7 +377,7 @@ module _ (ρ : Played) where
   strikes-now t n pl sk (struck r′ n′ s) = elim (ℕ-discrete n n′) [ yes y ↦ sym y | no y ↦ absurd (omega (arith, s .takes .plain n y pl)) ]
 
   -- when a node came to be struck
-  strike-at : (w T n : ℕ) → w ≤ T → Plain (M w) n → Marked (M T) n → (t : ℕ) × (w ≤ t) × (t < T) × Strikes (changes ρ t) n
+  pub strike-at : (w T n : ℕ) → w ≤ T → Plain (M w) n → Marked (M T) n → (t : ℕ) × (w ≤ t) × (t < T) × Strikes (changes ρ t) n
   strike-at w T n le pl sk = let z = begins-between (λ t. Marked (M t) n) (λ t. marked-or-not (M t) n) w T le (λ q. absurd (omega arith)) sk in
       (z .0, z .1, z .2, strikes-now (z .0) n (omega (arith, z .3 .0)) (z .3 .1) (changes ρ (z .0)))
 

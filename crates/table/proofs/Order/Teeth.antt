@@ -18,7 +18,7 @@ use Rattle.table.specs.History.{Kind, insert, delete, find, Answer, Oper
 use Rattle.table.specs.History.{SameAnswers, Order}
 
 -- the set after a slot
-abbrev after : Slot → Set → Set
+abbrev pub after : Slot → Set → Set
 after x s = becomes (x .operation .kind) (x .operation .address) s
 
 -- ---- an operation that failed does not stand in an order
@@ -57,7 +57,7 @@ find-needs-an-insert H e n r o v a k h t order =
 -- ---- an end that differs from the replay
 
 -- where nothing is deleted, an address that is in stays in
-in-stays : (k : Kind) (a b : Address) (s : Set) → k ≢ delete → s a ≡ true → becomes k b s a ≡ true
+pub in-stays : (k : Kind) (a b : Address) (s : Set) → k ≢ delete → s a ≡ true → becomes k b s a ≡ true
 in-stays insert a b s n e = rw e (or-true (eqb (a .0) (b .0)))
 in-stays delete a b s n e = absurd (n refl)
 in-stays find a b s n e = e

@@ -5,9 +5,6 @@ use borrow.Author.Needs.{needs}
 use Rattle.list.proofs.access.read_deleter.Statement.{statement}
 use Rattle.list.proofs.access.read_deleter.Tie as tie
 use Rattle.table.specs.Words.{deleterAt}
-use Rattle.list.proofs.Accessed.{deleter-is-read, deleter-not-read}
-use Rattle.table.specs.Words.{deleters≔, deleterAt}
-use Rattle.list.specs.Accesses.{deleterRead}
 
 usable-requires : tie.Need-usable-requires
 usable-requires c κs = search needs

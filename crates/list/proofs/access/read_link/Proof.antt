@@ -3,8 +3,6 @@ use Rattle.list.proofs.Accessed.{link-is-read, link-not-read}
 use borrow.Author.Needs.{needs}
 use Rattle.list.proofs.access.read_link.Statement.{statement}
 use Rattle.list.proofs.access.read_link.Tie as tie
-use Rattle.list.proofs.Accessed.{link-is-read, link-not-read}
-use Rattle.list.specs.Accesses.{linkRead}
 
 usable-requires : tie.Need-usable-requires
 usable-requires c κs = search needs

@@ -4,10 +4,6 @@ use Rattle.list.specs.Accesses.{swapMade}
 use borrow.Author.Needs.{needs}
 use Rattle.list.proofs.access.swap_at.Statement.{statement}
 use Rattle.list.proofs.access.swap_at.Tie as tie
-use mathlib.Core.Path.{ap}
-use Rattle.list.specs.Accesses.{swapMade}
-use mathlib.Core.Path.{ap}
-use Rattle.list.specs.Accesses.{swapMade}
 
 swap-requires : tie.Need-swap-requires
 swap-requires c κs = search needs

@@ -3,8 +3,6 @@ use Rattle.list.proofs.Accessed.{deleter-swapped, deleter-stays}
 use borrow.Author.Needs.{needs}
 use Rattle.list.proofs.access.swap_deleter.Statement.{statement}
 use Rattle.list.proofs.access.swap_deleter.Tie as tie
-use Rattle.list.proofs.Accessed.{deleter-swapped, deleter-stays}
-use Rattle.list.specs.Accesses.{deleterSwap}
 
 usable-requires : tie.Need-usable-requires
 usable-requires c κs = search needs

@@ -3,8 +3,6 @@ use Rattle.list.proofs.Accessed.{links-swapped, links-stay}
 use borrow.Author.Needs.{needs}
 use Rattle.list.proofs.access.swap_link.Statement.{statement}
 use Rattle.list.proofs.access.swap_link.Tie as tie
-use Rattle.list.proofs.Accessed.{links-swapped, links-stay}
-use Rattle.list.proofs.Accessed.{links-swapped, links-stay}
 
 usable-requires : tie.Need-usable-requires
 usable-requires c κs = search needs

@@ -3,8 +3,6 @@ use Rattle.list.proofs.Accessed.{link-written, link-stays}
 use borrow.Author.Needs.{needs}
 use Rattle.list.proofs.access.write_link.Statement.{statement}
 use Rattle.list.proofs.access.write_link.Tie as tie
-use Rattle.list.proofs.Accessed.{link-written, link-stays}
-use Rattle.list.proofs.Accessed.{link-written, link-stays}
 
 usable-requires : tie.Need-usable-requires
 usable-requires c κs = search needs

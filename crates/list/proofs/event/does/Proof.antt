@@ -3,7 +3,6 @@ use Rattle.list.proofs.Judged.{inserts, deletes, finds, steps, stops, r
 use borrow.Author.Needs.{needs}
 use Rattle.list.proofs.event.does.Statement.{statement}
 use Rattle.list.proofs.event.does.Tie as tie
-use Rattle.list.proofs.Judged.{inserts, deletes, finds, steps, stops, restarts}
 
 enum-known-action : tie.Need-enum-known-action
 enum-known-action c = search needs

@@ -3,7 +3,6 @@ use Rattle.list.proofs.Judged.{full, takes}
 use borrow.Author.Needs.{needs}
 use Rattle.list.proofs.event.insert.Statement.{statement}
 use Rattle.list.proofs.event.insert.Tie as tie
-use Rattle.list.proofs.Judged.{full, takes}
 
 refused-requires : tie.Need-refused-requires
 refused-requires c κs = search needs

@@ -3,7 +3,6 @@ use Rattle.list.proofs.ByPlace.{row-13}
 use borrow.Author.Needs.{needs}
 use Rattle.list.proofs.recovery.row_13.Statement.{statement}
 use Rattle.list.proofs.recovery.row_13.Tie as tie
-use Rattle.list.proofs.ByPlace.{row-13}
 
 pick-requires : tie.Need-pick-requires
 pick-requires c κs = search needs

@@ -3,7 +3,6 @@ use Rattle.list.proofs.Ends.{scanned}
 use borrow.Author.Needs.{needs}
 use Rattle.list.proofs.search.scan.Statement.{statement}
 use Rattle.list.proofs.search.scan.Tie as tie
-use Rattle.list.proofs.Ends.{scanned}
 
 search-ends-requires : tie.Need-search-ends-requires
 search-ends-requires c κs = search needs

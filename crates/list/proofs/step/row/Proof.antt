@@ -1,6 +1,6 @@
--- Each place is the row of its number, and no other place is in range. Rests on InRange.
+-- Each place is the row of its number, and no other place is in range. Rests on OutOfRange.
 use Rattle.table.specs.Words.{addresses≔, links≔, deleters≔}
-use Rattle.list.proofs.InRange.{off-the-table}
+use Rattle.list.proofs.OutOfRange.{off-the-table}
 use borrow.Author.Needs.{needs}
 use Rattle.list.proofs.step.row.Statement.{statement}
 use Rattle.list.proofs.step.row.Tie as tie

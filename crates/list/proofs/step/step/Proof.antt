@@ -1,5 +1,5 @@
--- The row, or refusal 8. Rests on InRange.
-use Rattle.list.proofs.InRange.{in-range, refused-8}
+-- The row, or refusal 8. Rests on OutOfRange.
+use Rattle.list.proofs.OutOfRange.{in-range, refused-8}
 use borrow.Author.Needs.{needs}
 use Rattle.list.proofs.step.step.Statement.{statement}
 use Rattle.list.proofs.step.step.Tie as tie
