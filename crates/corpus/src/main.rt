@@ -1,7 +1,9 @@
 // Many schedule files in one stream: standard input packs each as its length, a number in 01's form, and that many bytes. Each is run in turn
-// by the same library as the run program's, and its lines written. It stops at a length that can't be read or an output that can't be written.
+// by the same library as the run program's, and its lines written. It stops at a length that can't be read, and, saying so on standard error, at an
+// output that can't be written.
 use numbers::NumberRead;
 use numbers::read_number;
+use printer::Printout;
 use printer::print_output;
 ghost use Prim.Native.Nat.{_≤_};
 ghost use lib.ListN.{length};
@@ -71,14 +73,16 @@ fn main() {
         };
         let length = read_some(&mut file, size as usize);
         drop_bytes(&mut block, size as usize - length);
-        if !print_output(
+        let printed = print_output(
             &file[..length],
             &mut addresses,
             &mut links,
             &mut deleters,
             &mut block,
-        ) {
+        );
+        let Printout::Whole = printed else {
+            streams::complain(b"corpus: standard output takes no more\n");
             return;
-        }
+        };
     }
 }

@@ -2,12 +2,19 @@
 ghost use lib.ListN.{length};
 ghost use Rattle.words.specs.LentMemory.{lentMemory};
 ghost use Rattle.run.specs.Pieces.{unstated, begins};
-ghost use Rattle.printer.specs.Printing.{Printed};
+ghost use Rattle.printer.specs.Printing.{Printed, PrintedAs};
 use run::begin;
 use run::fill;
 
-// Runs a schedule file and writes its output. Answers whether all of it was written; it stops at the first block that can't be.
-pub fn print_output(
+// What printing comes to: all was written; standard output took no more; or the block is too short for any piece of it, and nothing was touched.
+pub enum Printout {
+    Whole,
+    Cut,
+    TooShort,
+}
+
+// Block after block, until nothing is left to come or standard output takes no more. Answers whether all was written.
+fn print_blocks(
     file: &[u8],
     addresses: &mut [u32],
     links: &mut [u32],
@@ -16,7 +23,8 @@ pub fn print_output(
 ) -> bool
     ensures { λ r. ⌜ Printed (now (file .entry))
         (begins (now (file .entry)) (lentMemory (now (addresses .entry)) (now (links .entry)) (now (deleters .entry)) unstated))
-        (length (now (block .entry))) (lentMemory (now (addresses .exit)) (now (links .exit)) (now (deleters .exit)) unstated) r ⌝ }
+        (length (now (block .entry))) (lentMemory (now (addresses .exit)) (now (links .exit)) (now (deleters .exit)) unstated)
+        (now (block .exit)) r ⌝ }
 {
     let mut run = begin(file, addresses, links, deleters);
     loop {
@@ -31,4 +39,25 @@ pub fn print_output(
             return false;
         }
     }
+}
+
+// Runs a schedule file and writes its output. It stops at the first block that can't be written.
+pub fn print_output(
+    file: &[u8],
+    addresses: &mut [u32],
+    links: &mut [u32],
+    deleters: &mut [u32],
+    block: &mut [u8],
+) -> Printout
+    ensures { λ r. ⌜ PrintedAs (now (file .entry))
+        (lentMemory (now (addresses .entry)) (now (links .entry)) (now (deleters .entry)) unstated) (now (block .entry))
+        (lentMemory (now (addresses .exit)) (now (links .exit)) (now (deleters .exit)) unstated) (now (block .exit)) r ⌝ }
+{
+    if block.len() < 64 {
+        return Printout::TooShort;
+    }
+    if print_blocks(file, addresses, links, deleters, block) {
+        return Printout::Whole;
+    }
+    Printout::Cut
 }
