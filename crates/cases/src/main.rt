@@ -68,10 +68,43 @@ fn answer(
     writing::gather_line(block, used, said, addresses, links, deleters, after)
 }
 
-// Where output and input stand.
+// Where output and input stand, and whether all that was to be written was.
 struct Stand {
     used: usize,
     at: usize,
+    good: bool,
+}
+
+// A block more than half full is written out; where that can't be, nothing more is read or written.
+fn emptied(block: &[u8], from: Stand, end: usize) -> Stand
+    requires { ⌜ Gathered (now block) (from .used) ⌝ }
+    ensures { λ r. ⌜ r .used ≤ 65536 ⌝ }
+{
+    if from.used <= 32768 {
+        return from;
+    }
+    if writing::write_out(block, from.used) {
+        return Stand {
+            used: 0,
+            at: from.at,
+            good: true,
+        };
+    }
+    Stand {
+        used: 0,
+        at: end,
+        good: false,
+    }
+}
+
+// A bad case ends the output.
+fn bad_case(block: &[u8], used: usize) -> bool
+    requires { ⌜ Gathered (now block) used ⌝ }
+{
+    if writing::write_out(block, used) {
+        return io::write_all(1, b"bad case\n");
+    }
+    false
 }
 
 // Reads the row and the event of a case whose tables are lent, and answers it. After a bad case nothing is read.
@@ -92,11 +125,11 @@ fn work_on(
     let taken_event = reading::take_event(input, taken_row.last);
     let last = taken_event.last;
     if !last.good {
-        writing::write_out(block, used);
-        io::write_all(1, b"bad case\n");
+        let good = bad_case(block, used);
         return Stand {
             used: 0,
             at: input.len(),
+            good,
         };
     }
     let row = taken_row.row;
@@ -105,18 +138,16 @@ fn work_on(
     Stand {
         used: end,
         at: last.next,
+        good: true,
     }
 }
 
-// Works on the next case, if there is one.
-fn work(input: &[u8], block: &mut [u8], from: Stand) -> Stand
-    requires { ⌜ Gathered (now block) (from .used) ⌝ }
+// Works on the case at a place.
+fn work_at(input: &[u8], block: &mut [u8], used: usize, at: usize) -> Stand
+    requires { ⌜ Gathered (now block) used ⌝ }
     ensures { λ r. ⌜ Gathered (now (block .exit)) (r .used) ⌝ }
 {
-    if input.len() <= from.at {
-        return from;
-    }
-    let taken_sizes = reading::take_sizes(input, from.at);
+    let taken_sizes = reading::take_sizes(input, at);
     let taken_addresses = reading::take_words(input, taken_sizes.last);
     let taken_links = reading::take_words(input, taken_addresses.last);
     let taken_deleters = reading::take_words(input, taken_links.last);
@@ -130,7 +161,7 @@ fn work(input: &[u8], block: &mut [u8], from: Stand) -> Stand
         input,
         taken_deleters.last,
         block,
-        from.used,
+        used,
         &mut addresses[..addresses_lent],
         &mut links[..links_lent],
         &mut deleters[..deleters_lent],
@@ -138,14 +169,49 @@ fn work(input: &[u8], block: &mut [u8], from: Stand) -> Stand
     )
 }
 
+// Works on the next case, if there is one.
+fn work(input: &[u8], block: &mut [u8], from: Stand) -> Stand
+    requires { ⌜ Gathered (now block) (from .used) ⌝ }
+    ensures { λ r. ⌜ Gathered (now (block .exit)) (r .used) ⌝ }
+{
+    if input.len() <= from.at {
+        return from;
+    }
+    let stand = emptied(block, from, input.len());
+    if !stand.good {
+        return stand;
+    }
+    work_at(input, block, stand.used, stand.at)
+}
+
+// What standard error is told where output can't be written.
+fn cut_off() {
+    streams::complain(b"cases: standard output takes no more\n");
+}
+
 fn main() {
     let mut bytes = [0u8; 262144];
     let n = io::read_full(0, &mut bytes);
+    if n < 262144 {
+        if streams::input_broken() {
+            streams::complain(b"cases: standard input can't be read\n");
+            return;
+        }
+    }
     let mut block = [0u8; 65536];
-    let mut stand = Stand { used: 0, at: 0 };
+    let mut stand = Stand {
+        used: 0,
+        at: 0,
+        good: true,
+    };
     // a case takes at least a byte
     for _ in 0..n {
         stand = work(&bytes[..n], &mut block, stand);
     }
-    writing::write_out(&block, stand.used);
+    if stand.good {
+        if writing::write_out(&block, stand.used) {
+            return;
+        }
+    }
+    cut_off();
 }

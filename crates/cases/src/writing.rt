@@ -1,5 +1,6 @@
 // The line of a case: what the event came to, the count, the words of the three tables and the fields of every record, as they are afterwards.
-// Output is gathered in a block through the writers of text, and written out where a piece of it may not fit any more.
+// Output is gathered in a block through the writers of text. A line is shorter than half a block, and a block more than half full is written out before
+// the next line.
 ghost use Prim.Native.Nat.{_≤_};
 ghost use lib.ListN.{length};
 ghost use Rattle.cases.specs.Block.{Gathered};
@@ -8,11 +9,11 @@ use lent::Said;
 use record::Kept;
 use record::Lost;
 
-// Writes out what the block holds.
-pub(crate) fn write_out(block: &[u8], used: usize)
+// Writes out what the block holds; whether standard output took it.
+pub(crate) fn write_out(block: &[u8], used: usize) -> bool
     requires { ⌜ used ≤ length (now block) ⌝ }
 {
-    io::write_all(1, &block[..used]);
+    io::write_all(1, &block[..used])
 }
 
 // Where the next piece goes: at least 64 bytes are left there.

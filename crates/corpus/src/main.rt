@@ -56,6 +56,22 @@ fn drop_bytes(space: &mut [u8], count: usize) {
     }
 }
 
+// Runs a file; whether all of its output was written.
+fn prints(
+    file: &[u8],
+    addresses: &mut [u32],
+    links: &mut [u32],
+    deleters: &mut [u32],
+    block: &mut [u8],
+) -> bool {
+    let printed = print_output(file, addresses, links, deleters, block);
+    let Printout::Whole = printed else {
+        streams::complain(b"corpus: standard output takes no more\n");
+        return false;
+    };
+    true
+}
+
 fn main() {
     let mut groups = [0u8; 5];
     let mut file = [0u8; 65537];
@@ -73,16 +89,14 @@ fn main() {
         };
         let length = read_some(&mut file, size as usize);
         drop_bytes(&mut block, size as usize - length);
-        let printed = print_output(
+        if !prints(
             &file[..length],
             &mut addresses,
             &mut links,
             &mut deleters,
             &mut block,
-        );
-        let Printout::Whole = printed else {
-            streams::complain(b"corpus: standard output takes no more\n");
+        ) {
             return;
-        };
+        }
     }
 }

@@ -19,6 +19,18 @@ slice-aggregate-read-full c = search needs
 read-full-requires : tie.Need-read-full-requires Inv-loop μ-loop
 read-full-requires c κs = search needs
 
+input-broken-requires : tie.Need-input-broken-requires Inv-loop μ-loop
+input-broken-requires c κs = search needs
+
+slice-aggregate-complain : tie.Need-slice-aggregate-complain Inv-loop μ-loop
+slice-aggregate-complain c = search needs
+
+complain-requires : tie.Need-complain-requires Inv-loop μ-loop
+complain-requires c κs = search needs
+
+returns : tie.Need-returns Inv-loop μ-loop
+returns c = search needs
+
 loop-holds : tie.Need-loop-holds Inv-loop μ-loop
 loop-holds c = (search needs, (search needs, record { long = length-replicate {A = ℕ} 65536 0; within = search needs }))
 
@@ -49,8 +61,14 @@ slice-aggregate-write-out c = search needs
 write-out-requires : tie.Need-write-out-requires Inv-loop μ-loop
 write-out-requires c κs = search needs
 
-returns : tie.Need-returns Inv-loop μ-loop
-returns c = search needs
+returns-2 : tie.Need-returns-2 Inv-loop μ-loop
+returns-2 c = search needs
+
+cut-off-requires : tie.Need-cut-off-requires Inv-loop μ-loop
+cut-off-requires c κs = search needs
+
+returns-3 : tie.Need-returns-3 Inv-loop μ-loop
+returns-3 c = search needs
 
 pub main-spec : {M : Type 1} → statement M
 main-spec =
@@ -60,6 +78,10 @@ main-spec =
     μ-loop
     slice-aggregate-read-full
     read-full-requires
+    input-broken-requires
+    slice-aggregate-complain
+    complain-requires
+    returns
     loop-holds
     array-share-prefix-bytes
     slice-aggregate-work
@@ -70,4 +92,6 @@ main-spec =
     loop-again
     slice-aggregate-write-out
     write-out-requires
-    returns)
+    returns-2
+    cut-off-requires
+    returns-3)

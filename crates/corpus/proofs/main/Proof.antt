@@ -77,23 +77,23 @@ drop-bytes-requires c κs = search needs
 array-share-prefix-file : tie.Need-array-share-prefix-file Inv-loop μ-loop
 array-share-prefix-file c = search needs
 
-slice-aggregate-print-output : tie.Need-slice-aggregate-print-output Inv-loop μ-loop
-slice-aggregate-print-output c = search (needs, length-take-le)
+slice-aggregate-prints : tie.Need-slice-aggregate-prints Inv-loop μ-loop
+slice-aggregate-prints c = search (needs, length-take-le)
 
-slice-aggregate-print-output-2 : tie.Need-slice-aggregate-print-output-2 Inv-loop μ-loop
-slice-aggregate-print-output-2 c = search needs
+slice-aggregate-prints-2 : tie.Need-slice-aggregate-prints-2 Inv-loop μ-loop
+slice-aggregate-prints-2 c = search needs
 
-slice-aggregate-print-output-3 : tie.Need-slice-aggregate-print-output-3 Inv-loop μ-loop
-slice-aggregate-print-output-3 c = search needs
+slice-aggregate-prints-3 : tie.Need-slice-aggregate-prints-3 Inv-loop μ-loop
+slice-aggregate-prints-3 c = search needs
 
-slice-aggregate-print-output-4 : tie.Need-slice-aggregate-print-output-4 Inv-loop μ-loop
-slice-aggregate-print-output-4 c = search needs
+slice-aggregate-prints-4 : tie.Need-slice-aggregate-prints-4 Inv-loop μ-loop
+slice-aggregate-prints-4 c = search needs
 
-slice-aggregate-print-output-5 : tie.Need-slice-aggregate-print-output-5 Inv-loop μ-loop
-slice-aggregate-print-output-5 c = search needs
+slice-aggregate-prints-5 : tie.Need-slice-aggregate-prints-5 Inv-loop μ-loop
+slice-aggregate-prints-5 c = search needs
 
-print-output-requires : tie.Need-print-output-requires Inv-loop μ-loop
-print-output-requires c κs = search needs
+prints-requires : tie.Need-prints-requires Inv-loop μ-loop
+prints-requires c κs = search needs
 
 returns-2 : tie.Need-returns-2 Inv-loop μ-loop
 returns-2 c = search needs
@@ -131,12 +131,12 @@ main-spec =
     sub-drop-bytes
     drop-bytes-requires
     array-share-prefix-file
-    slice-aggregate-print-output
-    slice-aggregate-print-output-2
-    slice-aggregate-print-output-3
-    slice-aggregate-print-output-4
-    slice-aggregate-print-output-5
-    print-output-requires
+    slice-aggregate-prints
+    slice-aggregate-prints-2
+    slice-aggregate-prints-3
+    slice-aggregate-prints-4
+    slice-aggregate-prints-5
+    prints-requires
     returns-2
     loop-less
     loop-again

@@ -1,11 +1,8 @@
 -- No more words of a table are lent than the array holds. Rests on LentPart.
 use Rattle.cases.proofs.LentPart.{lent-length}
 use borrow.Author.Needs.{needs}
-use Rattle.cases.proofs.work.Statement.{statement}
-use Rattle.cases.proofs.work.Tie as tie
-
-returns : tie.Need-returns
-returns c = search needs
+use Rattle.cases.proofs.work_at.Statement.{statement}
+use Rattle.cases.proofs.work_at.Tie as tie
 
 take-sizes-requires : tie.Need-take-sizes-requires
 take-sizes-requires c κs = search needs
@@ -43,14 +40,13 @@ work-on-requires c κs = search needs
 same-length : tie.Need-same-length
 same-length c = search needs
 
-returns-2 : tie.Need-returns-2
-returns-2 c = search needs
+returns : tie.Need-returns
+returns c = search needs
 
-pub work-spec : {M : Type 1} → statement M
-work-spec =
+pub work-at-spec : {M : Type 1} → statement M
+work-at-spec =
     tie.close
     (tie.spec
-    returns
     take-sizes-requires
     take-words-requires
     take-words-requires-2
@@ -63,4 +59,4 @@ work-spec =
     slice-aggregate-work-on-3
     work-on-requires
     same-length
-    returns-2)
+    returns)
