@@ -91,7 +91,8 @@ module _ (nodes processes : ℕ) (fit : sizesFit nodes processes ≡ true) where
 -- ---- the numbers
 
 -- every number fits: a file has at most 255 events for each of its 65,536 bytes
-start-numbered : (s : List ℕ) (m : Memory) (next : Cursor) (made : Made) → length s ≤ 65536 → next .left ≡ 0 → Numbered s (world m (startOf next made))
+start-numbered : (s : List ℕ) (m : Memory) (next : Cursor) (made : Made) → length s ≤ 65536 → next .left ≡ 0
+    → Numbered s (world m (startOf next made))
 unfolding startOf
 start-numbered s m next (Fresh sizes) short none z = omega (arith, comes-few s next)
 start-numbered s m next (Refused n) short none z = omega (arith, acts _ z)

@@ -1,9 +1,7 @@
--- A step of a record whose fields are out of their ranges; and the last place of a range, from the others. Rests on Rows.
+-- A step of a record whose fields are out of their ranges. Rests on Rows.
 use mathlib.Core.Path.{_≡_, sym, _∙_}
-use mathlib.Core.Logic.{_≢_}
 use mathlib.Core.Bool.{Bool, true, false}
-use Prim.Native.Nat.{ℕ, suc, _<_, _≤_}
-use native.Mathlib.Omega.{arith}
+use Prim.Native.Nat.{_<_}
 use borrow.Author.Tests.{lt-leb}
 use Rattle.record.specs.declared.Process.{Process}
 use Rattle.record.specs.declared.Record.{Record}
@@ -32,27 +30,3 @@ module _ (m : Memory) (sizes : Sizes) (p : Process) (r : Record) where
 
 pub in-range : (r : Record) (ranged : Bool) → ranged ≡ inRange r → ranged ≡ true → inRange r ≡ true
 in-range r ranged e h = sym e ∙ h
-
--- ---- a place from 5 to 12 that is none of the first seven
-
-above : (n k : ℕ) → k ≤ n → n ≢ k → suc k ≤ n
-above n k least other = omega arith
-
-only : (n k : ℕ) → k ≤ n → n ≤ k → n ≡ k
-only n k least most = omega arith
-
--- what the match told of a place that is none of its numbers
-abbrev Others : ℕ → Type 0
-Others n = (((((((Unit {0} × (n ≢ 5)) × (n ≢ 6)) × (n ≢ 7)) × (n ≢ 8)) × (n ≢ 9)) × (n ≢ 10)) × (n ≢ 11))
-
-pub is-12 : (n : ℕ) → 5 ≤ n → n ≤ 12 → Others n → n ≡ 12
-is-12 n least most o =
-    only n 12
-    (above n 11
-    (above n 10
-    (above n 9
-    (above n 8 (above n 7 (above n 6 (above n 5 least (o .0 .0 .0 .0 .0 .0 .1)) (o .0 .0 .0 .0 .0 .1)) (o .0 .0 .0 .0 .1)) (o .0 .0 .0 .1))
-    (o .0 .0 .1))
-    (o .0 .1))
-    (o .1))
-    most

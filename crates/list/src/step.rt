@@ -19,7 +19,8 @@ use record::Process;
 use record::Record;
 use words::Sizes;
 
-// The row of a record whose fields are in their ranges.
+// The row of a record whose fields are in their ranges. The places of inserts and deletes, 0 to 10, stand under one range: no arm is then so deep that
+// the compiler takes it for rare and leaves its row a call, for which it would hold every record in memory.
 fn row(
     addresses: &[u32],
     links: &mut [u32],
@@ -37,20 +38,26 @@ fn row(
 {
     let place = old.lost.place;
     match place {
-        0..=2 | 3..=4 => match place {
-            0 => search::row_0(links, sizes, old),
-            1 => search::row_1(addresses, links, sizes, old),
-            2 => search::row_2(links, sizes, old),
-            3 => insert::row_3(links, sizes, old),
-            _ => insert::row_4(links, sizes, old),
+        0..=10 => match place {
+            0..=2 => match place {
+                0 => search::row_0(links, sizes, old),
+                1 => search::row_1(addresses, links, sizes, old),
+                _ => search::row_2(links, sizes, old),
+            },
+            3..=4 => match place {
+                3 => insert::row_3(links, sizes, old),
+                _ => insert::row_4(links, sizes, old),
+            },
+            _ => match place {
+                5 => delete::row_5(links, sizes, old),
+                6 => delete::row_6(links, sizes, old),
+                7 => delete::row_7(links, sizes, old),
+                8 => delete::row_8(links, sizes, old),
+                9 => delete::row_9(links, deleters, sizes, p, old),
+                _ => delete::row_10(links, deleters, sizes, p, old),
+            },
         },
-        5..=10 | 11..=12 => match place {
-            5 => delete::row_5(links, sizes, old),
-            6 => delete::row_6(links, sizes, old),
-            7 => delete::row_7(links, sizes, old),
-            8 => delete::row_8(links, sizes, old),
-            9 => delete::row_9(links, deleters, sizes, p, old),
-            10 => delete::row_10(links, deleters, sizes, p, old),
+        11..=12 => match place {
             11 => find::row_11(addresses, links, sizes, old),
             _ => find::row_12(links, sizes, old),
         },

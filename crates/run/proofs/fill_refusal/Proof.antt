@@ -30,8 +30,9 @@ returns-2 c =
     let block = start .args .block .now in
     let number = start .args .number in
     let text = told .put-line in
-    let g = grows-first (line 0 (outcome.Refused number)) block (text .last .0) (text .result) (line-some 0 (outcome.Refused number)) (room .if1 .left)
-    (text .kept .0) (omega arith) (text .ensures .0) in
+    let some = line-some 0 (outcome.Refused number) in
+    let g = grows-first (line 0 (outcome.Refused number)) block (text .last .0) (text .result) some (room .if1 .left) (text .kept .0) (omega arith)
+    (text .ensures .0) in
     rw (c .in-phase .ensures) (
       (λ file m.
           let w = world m (start .args .run) in

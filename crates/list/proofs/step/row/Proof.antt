@@ -1,7 +1,6 @@
 -- Each place is the row of its number, and no other place is in range. Rests on OutOfRange.
 use Rattle.table.specs.Words.{addresses≔, links≔, deleters≔}
-use Rattle.list.proofs.OutOfRange.{off-the-table, is-12}
-use native.Mathlib.Omega.{arith}
+use Rattle.list.proofs.OutOfRange.{off-the-table}
 use borrow.Author.Needs.{needs}
 use Rattle.list.proofs.step.row.Statement.{statement}
 use Rattle.list.proofs.step.row.Tie as tie
@@ -43,12 +42,7 @@ row-11-requires : tie.Need-row-11-requires
 row-11-requires c κs = search needs
 
 row-12-requires : tie.Need-row-12-requires
-row-12-requires c κs =
-    let chosen = c .before in
-    record {
-      place = is-12 _ (chosen .before .before .if1 .left) (omega (arith, chosen .before .if2 .taken)) (chosen .match2 .rest);
-      ranged = search needs;
-    }
+row-12-requires c κs = search needs
 
 row-13-requires : tie.Need-row-13-requires
 row-13-requires c κs = search needs

@@ -154,8 +154,8 @@ address-grows : (c : tie.After-put-address Inv-loop μ-loop) →
     let walked = walked-on c in
     let l = with-room walked .before .loop in
     let p = c .put-address in
-    Grows (space ∷ decimal (walked .walked .given .0 .1 .0 .0)) (l .block) (putMid (l .at) (length (l .block) - l .at) (l .block) (p .last .0)) (l .at)
-    (l .at + p .result)
+    Grows (space ∷ decimal (walked .walked .given .0 .1 .0 .0)) (l .block) (putMid (l .at) (length (l .block) - l .at) (l .block) (p .last .0))
+    (l .at) (l .at + p .result)
 address-grows c =
     let room = with-room (walked-on c) in
     let l = room .before .loop in
