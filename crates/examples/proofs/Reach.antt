@@ -5,7 +5,7 @@ use mathlib.Core.List.{[], _∷_}
 use Prim.Native.Nat.{ℕ}
 use native.Mathlib.Omega.{arith}
 use Rattle.record.specs.Record.{process, address, False, True}
-use Rattle.record.specs.Event.{eventOf, refusalIn}
+use Rattle.record.specs.Event.{eventOf}
 use Rattle.record.specs.declared.Process.{Process}
 use Rattle.record.specs.declared.Action.the-variants.{Step}
 use Rattle.record.specs.declared.Event.{Event}
@@ -14,7 +14,7 @@ use Rattle.record.specs.declared.Outcome.the-variants.{Refused, Accepted, Answe
 use Rattle.table.specs.Words.{lengths, addressAt, linkAt, deleterAt, inUse, rank, written, givenOut, freshMemory}
 use Rattle.table.specs.Places.{placeOf, searchEnds, row}
 use Rattle.table.specs.Steps.{wordMet, inRange, turnIn}
-use Rattle.table.specs.Events.{State, Leaves, fresh, runs, event, stored, recordIn, act, tablesFit, sizesFit, does, step}
+use Rattle.table.specs.Events.{State, Leaves, fresh, runs, event, stored, recordIn, act, refusalIn, tablesFit, sizesFit, does, step}
 use Rattle.table.specs.Chain.{ahead, walk, chain, chainAddresses}
 use Rattle.table.proofs.Laws.Events.{countAfter, only-inserts-move-the-count}
 use Rattle.examples.specs.Examples.{insertBy, deleteBy, stepsBy}

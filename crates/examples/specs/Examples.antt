@@ -6,7 +6,7 @@ use mathlib.Core.List.{List, [], _∷_, _++_, map}
 use Prim.Native.Nat.{ℕ}
 use lib.ListN.{replicate}
 use Rattle.record.specs.Record.{node, process, address, Running, Down, False, True, Fail}
-use Rattle.record.specs.Event.{eventOf, refusalIn}
+use Rattle.record.specs.Event.{eventOf}
 use Rattle.record.specs.declared.Action.the-variants.{Insert, Delete, Find, Step, Stop, Restart}
 use Rattle.record.specs.declared.Event.{Event}
 use Rattle.record.specs.declared.Node.{Node}
@@ -16,7 +16,7 @@ use Rattle.record.specs.declared.Record.{Record}
 use Rattle.table.specs.Words.{lengths, addressAt, linkAt, deleterAt, isMarked, inUse, rank, written, givenOut, freshMemory}
 use Rattle.table.specs.Places.{placeOf, searchEnds, row}
 use Rattle.table.specs.Steps.{wordMet, inRange, turnIn}
-use Rattle.table.specs.Events.{fresh, outcomes, runs, event, stored, recordIn, act, tablesFit, sizesFit, does, step}
+use Rattle.table.specs.Events.{fresh, outcomes, runs, event, stored, recordIn, act, refusalIn, tablesFit, sizesFit, does, step}
 use Rattle.numbers.specs.Numbers.{Read, got, stops, numberBytes, groups, readNumber, moreGroups, _then_}
 
 -- ---- what an example shows

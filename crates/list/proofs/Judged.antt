@@ -1,16 +1,13 @@
 -- An event judged: refusals 7, 1, 2 in this order, then what each action does; and what follows of tables that fit. Rests on the table's Events and
 -- on Rows.
-use mathlib.Core.Path.{_≡_, refl, ap, _∙_}
-use mathlib.Core.Bool.{Bool, true, false}
+use mathlib.Core.Path.{_≡_, refl, ap, sym, _∙_}
+use mathlib.Core.Bool.{Bool, true, false, not}
 use mathlib.Core.List.{List}
-use mathlib.Core.Option.{none}
-use Prim.Native.Nat.{ℕ, zero, suc, _+_, _<_}
+use Prim.Native.Nat.{ℕ, _+_, _<_, _≤_}
 use native.Mathlib.Omega.{arith}
-use lib.Dec.{ltb, eqb}
 use lib.ListN.{set}
-use borrow.Author.Tests.{ltb-true, eq-eqb, ne-eqb}
+use borrow.Author.Tests.{lt-ltb, le-ltb, eq-eqb, ne-eqb, not-true, not-false}
 use Rattle.record.specs.Record.{tailNode, requested, wentDown, restarted, node, noNode, Inserts, Deletes, Finds}
-use Rattle.record.specs.Event.{outcomeOf, refusalIn}
 use Rattle.record.specs.declared.Node.{Node}
 use Rattle.record.specs.declared.Process.{Process}
 use Rattle.record.specs.declared.Address.{Address}
@@ -19,7 +16,7 @@ use Rattle.record.specs.declared.Action.{Action}
 use Rattle.record.specs.declared.Action.the-variants.{Insert, Delete, Find, Step, Stop, Restart}
 use Rattle.record.specs.declared.Outcome.the-variants.{Refused, Accepted}
 use Rattle.table.specs.Words.{Memory, addresses≔, links≔, deleters≔, count≔, nextNode, givenOut, linkWord}
-use Rattle.table.specs.Events.{Left, leaving, step, does, act, tablesFit, statusNeeded}
+use Rattle.table.specs.Events.{Left, leaving, step, does, act, refusalIn, tablesFit, statusNeeded}
 use Rattle.table.proofs.Laws.Fitting.{limits, room-of}
 use Rattle.table.proofs.Laws.InUse.{among-stated}
 use Rattle.words.specs.LentMemory.{lentMemory, sized}
@@ -27,20 +24,6 @@ use Rattle.words.specs.declared.Sizes.{Sizes}
 use Rattle.list.specs.declared.Acted.{Acted}
 use Rattle.list.specs.Acting.{left}
 use Rattle.list.specs.Rows.{answered, oneMore, Within}
-
--- where no test refuses, each holds
-none-refuses : (fits there ready : Bool) (refusal : ℕ) → refusal ≡ refusalIn fits there ready → refusal ≡ 0 →
-    (fits ≡ true) × (there ≡ true) × (ready ≡ true)
-unfolding refusalIn
-none-refuses true true true refusal is e = (refl, refl, refl)
-none-refuses true true false refusal is e = absurd (omega (arith, is, e))
-none-refuses true false ready refusal is e = absurd (omega (arith, is, e))
-none-refuses false there ready refusal is e = absurd (omega (arith, is, e))
-
--- a number other than 0 is a refusal's
-is-refusal : (refusal : ℕ) → (refusal ≡ 0 → ⊥) → outcomeOf refusal none ≡ Refused refusal
-is-refusal zero some = absurd (some refl)
-is-refusal (suc n) some = refl
 
 -- what tables that fit hold
 module _ (m : Memory) (sizes : Sizes) (fits : tablesFit (sized sizes m) ≡ true) where
@@ -52,32 +35,42 @@ module _ (m : Memory) (sizes : Sizes) (fits : tablesFit (sized sizes m) ≡ true
         stated = λ k n used. among-stated (sized sizes k) (room-of (sized sizes m) fits .most) n used;
       }
 
-  few-processes : (p : Process) → ltb (p .0) (sizes .processes) ≡ true → p .0 < 64
-  few-processes p there = omega (arith, ltb-true (p .0) (sizes .processes) there, limits (sized sizes m) fits .few-processes)
+-- where the tables fit and the process is there, the sizes hold and the process is one of few
+pub able : (addresses links deleters : List ℕ) (sizes : Sizes) (p : Process) (fits : Bool) →
+    fits ≡ tablesFit (lentMemory addresses links deleters sizes) → not fits ≡ false → p .0 < sizes .processes → Within sizes × (p .0 < 64)
+able addresses links deleters sizes p fits is told there =
+    let m : Memory = lentMemory addresses links deleters sizes in
+    let fit : tablesFit m ≡ true = sym is ∙ not-false fits told in
+    (within m sizes fit, omega (arith, there, limits m fit .few-processes))
 
--- what `judge` told: the first refusal of the three, by the tests of the tables, of the process and of the status
-module _ (addresses links deleters : List ℕ) (sizes : Sizes) (p : Process) (r : Record) (x : Action) (refusal : ℕ)
-    (is : refusal ≡ refusalIn (tablesFit (lentMemory addresses links deleters sizes)) (ltb (p .0) (sizes .processes))
-    (eqb (r .kept .status) (statusNeeded x))) where
+-- judged in their order: each refusal, where the tests before it hold
+module _ (addresses links deleters : List ℕ) (sizes : Sizes) (p : Process) (r : Record) (x : Action) (fits : Bool)
+    (is : fits ≡ tablesFit (lentMemory addresses links deleters sizes)) where
   abbrev m : Memory
   m = lentMemory addresses links deleters sizes
 
-  pub refuses : (refusal ≡ 0 → ⊥) → (a : Acted) → a ≡ answered sizes r (Refused refusal) → left m a ≡ act m p r x
-  unfolding act
-  refuses some a made = rw (made, ← is, ne-eqb refusal 0 some, is-refusal refusal some)
+  pub unfit : not fits ≡ true → (a : Acted) → a ≡ answered sizes r (Refused 7) → left m a ≡ act m p r x
+  unfolding act refusalIn
+  unfit h a made = rw (made, ← is, not-true fits h) refl
 
-  pub acts : refusal ≡ 0 → (d : Left) → d ≡ does m p r x → d ≡ act m p r x
-  unfolding act
-  acts unrefused d made = made ∙ rw (← is, eq-eqb refusal 0 unrefused)
+  module _ (told : not fits ≡ false) where
+    fit : fits ≡ true
+    fit = not-false fits told
 
--- where nothing is refused, the sizes hold and the process is one of few
-pub able : (addresses links deleters : List ℕ) (sizes : Sizes) (p : Process) (ready : Bool) (refusal : ℕ) →
-    refusal ≡ refusalIn (tablesFit (lentMemory addresses links deleters sizes)) (ltb (p .0) (sizes .processes)) ready → refusal ≡ 0 →
-    Within sizes × (p .0 < 64)
-able addresses links deleters sizes p ready refusal is unrefused =
-    let m : Memory = lentMemory addresses links deleters sizes in
-    let tests = none-refuses _ _ _ refusal is unrefused in
-    (within m sizes (tests .0), few-processes m sizes (tests .0) p (tests .1))
+    pub not-there : sizes .processes ≤ p .0 → (a : Acted) → a ≡ answered sizes r (Refused 1) → left m a ≡ act m p r x
+    unfolding act refusalIn
+    not-there past a made = rw (made, ← is, fit, le-ltb (p .0) (sizes .processes) past) refl
+
+    module _ (there : p .0 < sizes .processes) (needed : ℕ) (needs : needed ≡ statusNeeded x) where
+      pub not-ready : (r .kept .status ≡ needed → ⊥) → (a : Acted) → a ≡ answered sizes r (Refused 2) → left m a ≡ act m p r x
+      unfolding act refusalIn
+      not-ready other a made =
+          rw (made, ← is, fit, lt-ltb (p .0) (sizes .processes) there, ← needs, ne-eqb (r .kept .status) needed other) refl
+
+      pub acts : r .kept .status ≡ needed → (d : Left) → d ≡ does m p r x → d ≡ act m p r x
+      unfolding act refusalIn
+      acts ready d made =
+          made ∙ rw (← is, fit, lt-ltb (p .0) (sizes .processes) there, ← needs, eq-eqb (r .kept .status) needed ready) refl
 
 -- what each action does
 module _ (addresses links deleters : List ℕ) (sizes : Sizes) (p : Process) (r : Record) (x : Action) where

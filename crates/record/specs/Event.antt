@@ -1,5 +1,4 @@
 -- Actions, events and outcomes of 01: the number and the values of each case. Rests on the declared types alone.
-use mathlib.Core.Bool.{Bool, cond}
 use Prim.Native.Nat.{ℕ, zero, suc}
 use mathlib.Core.Option.{Option, none, some}
 use Rattle.record.specs.declared.Process.{Process}
@@ -42,8 +41,3 @@ outcomeOf (suc refusal) answer = Refused (suc refusal)
 -- accepted, and nothing handed out
 abbrev pub accepted : Outcome
 accepted = outcomeOf 0 none
-
--- "Order for an event: 7, 1, 2, ..": the number of the first of these three that is given, 0 for none, by whether its tables fit, its process is
--- there and has the status that it needs
-unfoldable pub refusalIn : (fits there ready : Bool) → ℕ
-refusalIn fits there ready = cond fits (cond there (cond ready 0 2) 1) 7

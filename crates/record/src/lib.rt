@@ -2,8 +2,6 @@
 // Rests on the basics.
 ghost use mathlib.Core.Path.{_≡_};
 ghost use mathlib.Core.Bool.{cond};
-ghost use lib.Dec.{eqb};
-ghost use Rattle.record.specs.Event.{refusalIn};
 ghost use Rattle.record.specs.Record.{lostAt, lostPart, recordOf, _▸_, _with_, to, pred≔, curr≔, succ≔, node≔, result≔, status≔};
 ghost use Rattle.record.specs.Record.{freshRecord, requested, wentDown, restarted, headNode, Idle, False, True, Fail};
 
@@ -90,36 +88,6 @@ pub enum Outcome {
     Refused(u8),
     Accepted,
     Answered(u8),
-}
-
-// Where a test fails, its refusal; else 0.
-fn unless(holds: bool, refusal: u8) -> u8
-    ensures { λ r. ⌜ r ≡ cond holds 0 refusal ⌝ }
-{
-    if holds {
-        return 0;
-    }
-    refusal
-}
-
-// The first refusal of three, or 0.
-fn first(one: u8, two: u8, three: u8) -> u8
-    ensures { λ r. ⌜ r ≡ cond (eqb one 0) (cond (eqb two 0) three two) one ⌝ }
-{
-    if one != 0 {
-        return one;
-    }
-    if two != 0 {
-        return two;
-    }
-    three
-}
-
-// An event's refusals 7, 1 and 2 in this order: whether its tables fit, its process is there and has the status it needs; 0 for none.
-pub fn first_refusal(fits: bool, there: bool, ready: bool) -> u8
-    ensures { λ r. ⌜ r ≡ refusalIn fits there ready ⌝ }
-{
-    first(unless(fits, 7), unless(there, 1), unless(ready, 2))
 }
 
 // A lost part of zeros but for its place.

@@ -1,21 +1,26 @@
 -- What comes next in a run, by what its reader, its list and its walk gave. Rests on Pieces and on the table's law of an event in a row (Meets).
 use Prim.Native.Nat.{ℕ, zero, suc, _-_, _<_, _≤_}
 use mathlib.Core.List.{List, [], _∷_}
-use mathlib.Core.Bool.{cond}
+use mathlib.Core.Bool.{Bool, false, cond, false≢true}
 use mathlib.Core.Path.{_≡_, refl, ap, sym, _∙_}
 use mathlib.Core.Logic.{_⊎_, ⊎-elim}
 use native.Mathlib.Omega.{arith}
-use borrow.Author.Tests.{lt-leb, ne-eqb}
+use borrow.Author.Tests.{lt-ltb, ne-eqb}
 use lib.Dec.{eqb}
 use lib.ListN.{length, length-append, getD, set}
+use lib.Seq.{set-getD}
 use denote.Enum.Declared.{tagOf}
 use Rattle.record.specs.Record.{freshRecord, process}
 use Rattle.record.specs.declared.Node.{Node}
 use Rattle.record.specs.declared.Process.{Process}
 use Rattle.record.specs.declared.Event.{Event}
+use Rattle.record.specs.declared.Action.{Action}
+use Rattle.record.specs.declared.Record.{Record}
+use Rattle.record.specs.declared.Outcome.{Outcome}
 use Rattle.record.specs.declared.Outcome.the-variants as outcome
 use Rattle.table.specs.Words.{Memory}
-use Rattle.table.specs.Events.{State, act, event, stored, recordIn, Leaves}
+use Rattle.table.specs.Events.{State, Left, leaving, act, event, stored, recordIn, Leaves}
+use Rattle.table.proofs.Laws.Events.{refused-act-changes-nothing}
 use Rattle.table.proofs.Laws.Fitting.{limits}
 use Rattle.table.proofs.Laws.Meets.{event-by-slot}
 use Rattle.words.specs.LentMemory.{sized}
@@ -42,7 +47,7 @@ use Rattle.run.proofs.Phase as phase-type
 use Rattle.run.specs.Filling.{Next, piece, nothing, stop, fillFrom}
 use Rattle.run.specs.Pieces.{World, world, runOf, memoryOf, tableOf, inPhase, nextNumber, wentOn, toWalk}
 use Rattle.run.specs.Pieces.{eventNext, addressNext, nextPiece, fills, refusing, startOf, begins}
-use Rattle.run.specs.PrivatePromises.{Ready, slotOf, stoppedText, lastText}
+use Rattle.run.specs.PrivatePromises.{Ready, slotOf, isAccepted, stoppedText, lastText}
 use Rattle.run.proofs.Fills.{FillsTo, full, at-end}
 
 -- ---- the record of an event's process, in a row of 64
@@ -50,7 +55,7 @@ use Rattle.run.proofs.Fills.{FillsTo, full, at-end}
 -- a process that is there has its own record, where the sizes fit
 own-slot : (processes : ℕ) (p : Process) → processes ≤ 64 → p .0 < processes → process (slotOf processes (p .0)) ≡ p
 unfolding slotOf
-own-slot processes p few there = rw (lt-leb processes (p .0) there, lt-leb 64 (p .0) (omega arith))
+own-slot processes p few there = rw (lt-ltb (p .0) processes there, lt-ltb (p .0) 64 (omega arith))
 
 module _ (σ : State) (row : length (σ .row) ≡ 64) (e : Event) where
   -- what an event leaves, worked on the record at a place
@@ -77,20 +82,35 @@ pub got-piece : (file : List ℕ) (w : World) (e : Event) (next : Cursor) → ev
 unfolding eventNext
 got-piece file w e next h = rw (h, eventNext)
 
+-- only an accepted event is stored: a refused one leaves the record as it was
+module _ (m : Memory) (p : Process) (x : Action) (row : List Record) (at : ℕ) (m′ : Memory) (a : Acted)
+    (is : left m′ a ≡ act m p (getD row at freshRecord) x) where
+  as-it-was : (o : Outcome) → a .outcome ≡ o → isAccepted o ≡ false → set row at (a .advanced) ≡ row
+  as-it-was (outcome.Refused n) told h =
+      let changed : left m′ a ≡ leaving m (getD row at freshRecord) (outcome.Refused n) =
+      is ∙ refused-act-changes-nothing m p (getD row at freshRecord) x n (ap (λ (l : Left). l .outcome) (sym is) ∙ told) in
+      ap (λ (r : Record). set row at r) (ap (λ (l : Left). l .advanced) changed) ∙ set-getD row at freshRecord
+  as-it-was outcome.Accepted told h = absurd (false≢true (sym h))
+  as-it-was (outcome.Answered n) told h = absurd (false≢true (sym h))
+
+  pub unstored : (accepted : Bool) → accepted ≡ isAccepted (a .outcome) → accepted ≡ false → row ≡ set row at (a .advanced)
+  unstored accepted told refused = sym (as-it-was (a .outcome) refl (sym told ∙ refused))
+
 -- the world after an event, as the code leaves it, and its line
 module _ (m : Memory) (run : Run) (acting : run .phase ≡ Acting) (row : length (run .row) ≡ 64) (e : Event) (next : Cursor) (at number : ℕ)
-    (m′ : Memory) (x : Acted) (slot : at ≡ slotOf (run .sizes .processes) (e .process .0)) (following : number ≡ nextNumber (run .number))
-    (is : left m′ x ≡ act (sized (run .sizes) m) (e .process) (getD (run .row) at freshRecord) (e .action)) where
+    (m′ : Memory) (x : Acted) (row′ : List Record) (slot : at ≡ slotOf (run .sizes .processes) (e .process .0)) (following : number ≡ nextNumber (run .number))
+    (is : left m′ x ≡ act (sized (run .sizes) m) (e .process) (getD (run .row) at freshRecord) (e .action))
+    (stores : row′ ≡ set (run .row) at (x .advanced)) where
   abbrev w : World
   w = world m run
 
   abbrev after : World
-  after = world m′ (runOf (run .phase) next (x .sizes) number (set (run .row) at (x .advanced)))
+  after = world m′ (runOf (run .phase) next (x .sizes) number row′)
 
   goes-on : piece (line (run .number) (workedAt (tableOf w) row e at .outcome)) (wentOn w next (workedAt (tableOf w) row e at .after))
       ≡ piece (line (run .number) (x .outcome)) after
   unfolding stored recordIn
-  goes-on = rw (following, ← is)
+  goes-on = rw (following, stores, ← is)
 
   pub acted-piece : (file : List ℕ) → eventAt file (run .cursor) ≡ read.Got e next
       → nextPiece file w ≡ piece (line (run .number) (x .outcome)) after

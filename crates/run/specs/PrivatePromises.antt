@@ -1,11 +1,12 @@
 -- What the run's private functions promise of a block filled in part, of a record's place and of the texts they put; no public promise rests on
 -- it. Rests on Pieces.
-use mathlib.Core.Bool.{cond}
+use mathlib.Core.Bool.{Bool, true, false, cond}
 use mathlib.Core.List.{List, [], _++_}
 use mathlib.Core.Path.{_≡_}
 use Prim.Native.Nat.{ℕ, _-_, _<_}
-use lib.Dec.{leb}
+use lib.Dec.{ltb}
 use lib.ListN.{length}
+use Rattle.record.specs.declared.Outcome.{Outcome}
 use Rattle.record.specs.declared.Outcome.the-variants as outcome
 use Rattle.table.specs.Words.{Memory, addresses≔, links≔}
 use Rattle.schedule.specs.declared.EventRead.{EventRead}
@@ -44,7 +45,13 @@ Ready Over room = Unit
 
 -- The place of a process's record in a row of 64, by the stated number of processes. A process that is not there is refused; it has the first place.
 unfoldable pub slotOf : (processes process : ℕ) → ℕ
-slotOf processes p = cond (leb processes p) 0 (cond (leb 64 p) 0 p)
+slotOf processes p = cond (ltb p processes) (cond (ltb p 64) p 0) 0
+
+-- an event that is not refused
+abbrev pub isAccepted : Outcome → Bool
+isAccepted (outcome.Refused n) = false
+isAccepted outcome.Accepted = true
+isAccepted (outcome.Answered n) = true
 
 -- what follows the last event: the line of a refusal that stops the run, and the first word of the last line
 unfoldable pub stoppedText : (number refusal : ℕ) → List ℕ

@@ -21,7 +21,7 @@ ghost use Rattle.words.specs.LentMemory.{lentMemory};
 ghost use Rattle.text.specs.Put.{put, puts};
 ghost use Rattle.run.specs.declared.Phase.the-variants.{Acting};
 ghost use Rattle.run.specs.Pieces.{world, runOf, nextNumber};
-ghost use Rattle.run.specs.PrivatePromises.{LeftOff, Ready, slotOf, stoppedText, lastText};
+ghost use Rattle.run.specs.PrivatePromises.{LeftOff, Ready, slotOf, isAccepted, stoppedText, lastText};
 
 // The place of a process's record in the row, by the stated number of processes. A process that is not there has the first: it is refused, and
 // the record stays.
@@ -29,13 +29,23 @@ fn slot(process: Process, processes: u32) -> usize
     ensures { λ r. ⌜ r ≡ slotOf processes (process .0) ⌝ }
     ensures { λ r. ⌜ r < 64 ⌝ }
 {
-    if processes <= process.0 {
-        return 0;
+    if process.0 < processes {
+        if process.0 < 64 {
+            return process.0 as usize;
+        }
     }
-    if 64 <= process.0 {
-        return 0;
+    0
+}
+
+// Whether an event was accepted. A refused one changes nothing, so that nothing is stored for it.
+fn accepted(outcome: Outcome) -> bool
+    ensures { λ r. ⌜ r ≡ isAccepted outcome ⌝ }
+{
+    match outcome {
+        Outcome::Refused(_) => false,
+        Outcome::Accepted => true,
+        Outcome::Answered(_) => true,
     }
-    process.0 as usize
 }
 
 // The number of the next line.
@@ -129,11 +139,13 @@ pub(crate) fn fill_lines(
         let action = event.action;
         let p = slot(process, sizes.processes);
         let acted = act(addresses, links, deleters, sizes, process, row[p], action);
-        let advanced = acted.advanced;
-        row[p] = advanced;
         cursor = next;
         sizes = acted.sizes;
+        let advanced = acted.advanced;
         let outcome = acted.outcome;
+        if accepted(outcome) {
+            row[p] = advanced;
+        }
         at = at + put_line(&mut block[at..], number, outcome);
         number = number_after(number);
     }

@@ -6,7 +6,7 @@ use Prim.Native.Nat.{ℕ}
 use lib.Dec.{leb, ltb, eqb}
 use lib.ListN.{length, getD, set, replicate}
 use Rattle.record.specs.Record.{freshRecord, requested, wentDown, restarted, noNode, Idle, Running, Down, Inserts, Deletes, Finds}
-use Rattle.record.specs.Event.{outcomeOf, accepted, refusalIn}
+use Rattle.record.specs.Event.{outcomeOf, accepted}
 use Rattle.record.specs.declared.Process.{Process}
 use Rattle.record.specs.declared.Record.{Record}
 use Rattle.record.specs.declared.Action.{Action}
@@ -71,6 +71,11 @@ tablesFit m =
     && longEnough (m .nodes) (lengths m)
     && leb 2 (m .count)
     && leb (m .count) (m .nodes)
+
+-- "Order for an event: 7, 1, 2, ..": the number of the first of these three that is given, 0 for none, by whether its tables fit, its process is
+-- there and has the status that it needs
+unfoldable pub refusalIn : (fits there ready : Bool) → ℕ
+refusalIn fits there ready = cond fits (cond there (cond ready 0 2) 1) 7
 
 -- "Order for an event: 7, 1, 2, 3, 8": the first of 7, 1 and 2 that is given; where none is, what the event does, 3 and 8 among it
 unfoldable pub act : Memory → Process → Record → Action → Left

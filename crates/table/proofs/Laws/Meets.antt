@@ -9,7 +9,6 @@ use lib.Seq.{set-getD}
 use native.Mathlib.Omega.{arith}
 use borrow.Author.Tests.{le-leb, lt-leb, le-ltb, ltb-true}
 use Rattle.record.specs.Record.{freshRecord, requested, wentDown, restarted, noNode, Inserts, Deletes, Finds}
-use Rattle.record.specs.Event.{refusalIn}
 use Rattle.record.specs.declared.Process.{Process}
 use Rattle.record.specs.declared.Address.{Address}
 use Rattle.record.specs.declared.Record.{Record}
@@ -20,7 +19,7 @@ use Rattle.record.specs.declared.Outcome.the-variants.{Refused, Accepted}
 use Rattle.table.specs.Words.{Memory, givenOut, nextNode, noneLeft, written}
 use Rattle.table.specs.Steps.{turnIn}
 use Rattle.table.specs.Events.{Left, leaving, refused, step, does, statusNeeded, tablesFit, act, State, recordIn, Leaves, leavesIn}
-use Rattle.table.specs.Events.{stateOf, stored, event}
+use Rattle.table.specs.Events.{stateOf, stored, event, refusalIn}
 use Rattle.basics.proofs.Tests.{if, if-le, by-test}
 use Rattle.table.proofs.Laws.Fitting.{limits}
 

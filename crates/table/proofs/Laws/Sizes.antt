@@ -10,7 +10,6 @@ use lib.ListN.{length, length-set, length-append, List·getD-append}
 use lib.Seq.{set-append-left}
 use borrow.Author.Tests.{ltb-true, ltb-false}
 use Rattle.record.specs.Record.{freshRecord, headNode, tailNode, requested, noNode, Inserts}
-use Rattle.record.specs.Event.{refusalIn}
 use Rattle.record.specs.declared.Node.{Node}
 use Rattle.record.specs.declared.Process.{Process}
 use Rattle.record.specs.declared.Address.{Address}
@@ -24,7 +23,7 @@ use Rattle.table.specs.Places.{Field, head, pred, curr, succ, own, nodeO
 use Rattle.table.specs.Places.{swapLink, readDeleter, swapDeleter, writeNode, ownRecord, handOut, p0, p1, p2, p3, p4, p5, p6, p7, p8, p9, p10}
 use Rattle.table.specs.Places.{p11, p12, p13, p14, p15, p16, p17, p18, p19, off}
 use Rattle.table.specs.Steps.{link, deleter, wordMet, accessOf, inRange, usable, allUsable, Turn, turn, turnIn}
-use Rattle.table.specs.Events.{Left, leaving, refused, step, does, tablesFit, act, State, stateOf, recordIn, Leaves, leavesIn, stored, event}
+use Rattle.table.specs.Events.{Left, leaving, refused, step, does, tablesFit, refusalIn, act, State, stateOf, recordIn, Leaves, leavesIn, stored, event}
 use Rattle.basics.proofs.Tests.{by-test, if, and-left, and-right}
 use Rattle.table.proofs.Laws.Fitting.{LongEnough, long-is, SameSizes, same-sizes, written-sizes, given-sizes, Beyond, longer, long-longer}
 use Rattle.table.proofs.Laws.Fitting.{Room, room-of, room-written, room-given}

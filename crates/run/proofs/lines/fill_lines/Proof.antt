@@ -1,8 +1,9 @@
 -- The lines put so far, and filling on from here, come to filling from the start. Rests on Fills and Steps.
 use mathlib.Core.Path.{_≡_, refl, ap, sym, _∙_}
+use mathlib.Core.Logic.{⊎-elim}
 use Prim.Native.Nat.{ℕ, _+_, _-_, _<_, _≤_}
 use native.Mathlib.Omega.{arith}
-use lib.ListN.{length, length-set, length-map}
+use lib.ListN.{length, set, length-set, length-map}
 use borrow.Author.Needs.{needs}
 use borrow.Rule.Slice.PartMut.{putMid}
 use Rattle.words.specs.LentMemory.{lentMemory}
@@ -16,7 +17,7 @@ use Rattle.run.specs.Filling.{Stop}
 use Rattle.run.specs.Pieces.{World, world, runOf, nextPiece, fills}
 use Rattle.run.specs.PrivatePromises.{lastText}
 use Rattle.run.proofs.Fills.{Grows, FillsTo, to-same, grows, grows-into, onward}
-use Rattle.run.proofs.Steps.{from-start, acting-run, acted-piece, last-piece, last-some}
+use Rattle.run.proofs.Steps.{from-start, acting-run, unstored, acted-piece, last-piece, last-some}
 use Rattle.run.proofs.TablesKept.{TablesKept, kept, kept-on}
 use Rattle.run.proofs.lines.fill_lines.Statement.{statement}
 use Rattle.run.proofs.lines.fill_lines.Tie as tie
@@ -51,13 +52,16 @@ entry c =
     let addresses = deleters .before .before in
     addresses .before .before
 
--- back from where a line is put: to the event worked, the slot taken, the event read, and the room told
+-- back from where a line is put: to what the event left, the event worked, the slot taken, the event read, and the room told
 abbrev acted : tie.After-sizes2 Inv-loop μ-loop → tie.After-act Inv-loop μ-loop
 acted c =
-    let deleters = c .before .before .before in
+    let deleters = c .before .before in
     let links = deleters .before .before in
     let addresses = links .before .before in
     addresses .before
+
+abbrev worked-on : tie.Joined2 Inv-loop μ-loop → tie.After-sizes2 Inv-loop μ-loop
+worked-on c = c .before .before .before
 
 abbrev slotted : tie.After-act Inv-loop μ-loop → tie.After-slot Inv-loop μ-loop
 slotted c = let addresses = c .before .before .before in addresses .before .before
@@ -68,8 +72,8 @@ event-got c = c .before .before .before
 abbrev with-room : tie.After-read Inv-loop μ-loop → tie.Else1 Inv-loop μ-loop
 with-room c = c .before .before .before
 
-abbrev room-before : tie.After-sizes2 Inv-loop μ-loop → tie.Else1 Inv-loop μ-loop
-room-before c = with-room (event-got (slotted (acted c)))
+abbrev room-before : tie.Joined2 Inv-loop μ-loop → tie.Else1 Inv-loop μ-loop
+room-before c = with-room (event-got (slotted (acted (worked-on c))))
 
 -- the run that stands at the loop, and its world
 abbrev standing : tie.At-loop Inv-loop μ-loop → World
@@ -200,6 +204,9 @@ array-copy-out-act c = search needs
 act-requires : tie.Need-act-requires Inv-loop μ-loop
 act-requires c κs = search needs
 
+accepted-requires : tie.Need-accepted-requires Inv-loop μ-loop
+accepted-requires c κs = search needs
+
 mul-row : tie.Need-mul-row Inv-loop μ-loop
 mul-row c = search needs
 
@@ -229,13 +236,13 @@ number-after-requires c κs = search needs
 
 -- the line put
 line-grows : (c : tie.After-put-line Inv-loop μ-loop) →
-    let worked = acted (c .before .before) in
+    let worked = acted (worked-on (c .before .before)) in
     let l = room-before (c .before .before) .before .loop in
     let p = c .put-line in
     Grows (line (l .number) (worked .act .result .outcome)) (l .block) (putMid (l .at) (length (l .block) - l .at) (l .block) (p .last .0)) (l .at)
     (l .at + p .result)
 line-grows c =
-    let worked = acted (c .before .before) in
+    let worked = acted (worked-on (c .before .before)) in
     let room = room-before (c .before .before) in
     let l = room .before .loop in
     let p = c .put-line in
@@ -248,7 +255,8 @@ loop-less c = line-grows (c .before .before .before) .less
 loop-again : tie.Need-loop-again Inv-loop μ-loop
 loop-again c =
     let told = c .before .before .before in
-    let worked = acted (told .before .before) in
+    let joined = told .before .before in
+    let worked = acted (worked-on joined) in
     let slot = slotted worked in
     let got = event-got slot in
     let room = with-room got in
@@ -261,14 +269,19 @@ loop-again c =
     let event-is : eventAt file (l .cursor) ≡ read.Got e next = sym (got .before .before .read-event .ensures) ∙ got .read .given .1 in
     let m = lentMemory (l .addresses) (l .links) (l .deleters) (l .sizes) in
     let m′ = lentMemory (x .last .0) (x .last .1 .0) (x .last .1 .1 .0) (x .result .sizes) in
+    let told-accepted = joined .before .accepted in
+    let row-is : joined .if2 .row ≡ set (l .row) (slot .slot .result) (x .result .advanced) =
+    ⊎-elim (λ y. y .1)
+    (λ n. n .1 ∙ unstored m _ _ (l .row) (slot .slot .result) m′ (x .result) (x .ensures) (told-accepted .result) (told-accepted .ensures) (n .0 .left))
+    (joined .if2 .came) in
     let step = acted-piece m (runOf Acting (l .cursor) (l .sizes) (l .number) (l .row)) refl (l .inv .row-is) e next (slot .slot .result)
-    (c .number-after .result) m′ (x .result) (slot .slot .ensures .0) (c .number-after .ensures) (x .ensures) file event-is in
+    (c .number-after .result) m′ (x .result) (joined .if2 .row) (slot .slot .ensures .0) (c .number-after .ensures) (x .ensures) row-is file event-is in
     let g = line-grows told in
     record {
       tables = kept-on (l .inv .tables) (record { addresses = x .kept .0; links = x .kept .1 .0; deleters = x .kept .1 .1 .0 });
       block-is = g .same-length ∙ l .inv .block-is;
       within = g .within;
-      row-is = simp length-set (l .inv .row-is);
+      row-is = ap length row-is ∙ simp length-set (l .inv .row-is);
       reached = onward (nextPiece file) (standing at-loop) (l .block) (l .at) (l .inv .reached) (room .if1 .left) step g;
     }
 
@@ -303,6 +316,7 @@ fill-lines-spec =
     mul-act
     array-copy-out-act
     act-requires
+    accepted-requires
     mul-row
     array-set-from-row
     sub-put-line

@@ -5,6 +5,9 @@ use borrow.Author.Needs.{needs}
 use Rattle.run.proofs.lines.slot.Statement.{statement}
 use Rattle.run.proofs.lines.slot.Tie as tie
 
+cast-result : tie.Need-cast-result
+cast-result c = search needs
+
 returns : tie.Need-returns
 unfolding slotOf
 returns c = search (needs, conds)
@@ -13,12 +16,9 @@ returns-2 : tie.Need-returns-2
 unfolding slotOf
 returns-2 c = search (needs, conds)
 
-cast-result : tie.Need-cast-result
-cast-result c = search needs
-
 returns-3 : tie.Need-returns-3
 unfolding slotOf
 returns-3 c = search (needs, conds)
 
 pub slot-spec : {M : Type 1} → statement M
-slot-spec = tie.close (tie.spec returns returns-2 cast-result returns-3)
+slot-spec = tie.close (tie.spec cast-result returns returns-2 returns-3)
