@@ -1,5 +1,6 @@
--- Every piece of a run is the next of what is to come of it. Rests on what the cursor reader hands out (files) and on Pieces.
-use Prim.Native.Nat.{ℕ, zero, suc, _+_, _-_, _<_, _≤_}
+-- Every piece of a run is the next of what is to come of it. Rests on what the cursor reader hands out (files), on how the walk along the chain
+-- goes on (the table's Ahead) and on Pieces.
+use Prim.Native.Nat.{ℕ, suc, _+_, _<_, _≤_}
 use mathlib.Core.List.{List, [], _∷_, _++_, map, append-assoc, append-nil}
 use mathlib.Core.Path.{_≡_, refl, ap, sym, _∙_, subst}
 use mathlib.Core.Logic.{inl, inr}
@@ -13,12 +14,9 @@ use Rattle.record.specs.declared.Address.{Address}
 use Rattle.record.specs.declared.Event.{Event}
 use Rattle.record.specs.declared.Outcome.the-variants as outcome
 use Rattle.table.specs.Words.{addressAt}
-use Rattle.table.specs.Chain.{walk, chain, chainAddresses}
+use Rattle.table.specs.Chain.{Ahead, onto, tailAhead, notInUse, notAbove, ahead, nodesAfter, chain, chainAddresses}
 use Rattle.table.specs.Events.{State, event, runs, outcomes}
-use Rattle.chain.specs.Walking.{walkedFrom}
-use Rattle.chain.specs.declared.Walked.{Walked}
-use Rattle.chain.specs.declared.Walked.the-variants.{Onto, Ends}
-use Rattle.chain.proofs.Walks.{walk-by-steps}
+use Rattle.table.proofs.Laws.Ahead.{after, nodes-after}
 use Rattle.schedule.specs.declared.EventRead.{EventRead}
 use Rattle.schedule.specs.declared.EventRead.the-variants as read
 use Rattle.schedule.specs.Cursors.{eventAt}
@@ -30,10 +28,10 @@ use Rattle.run.specs.declared.Phase.{Phase}
 use Rattle.run.specs.declared.Phase.the-variants.{Refusing, Acting, Walking, Over}
 use Rattle.run.specs.Output.{lines, stopLine, played}
 use Rattle.run.specs.Filling.{Next, piece, nothing}
-use Rattle.run.specs.Pieces.{World, memoryOf, tableOf, inPhase, nextNumber, wentOn, toWalk, eventNext, addressNext, nextPiece}
+use Rattle.run.specs.Pieces.{World, memoryOf, tableOf, inPhase, nextNumber, wentOn, toWalk, eventNext, putAhead, addressNext, nextPiece}
 use Rattle.run.specs.PrivatePromises.{stoppedText, lastText}
 use Rattle.run.proofs.Phase as phase-type
-use Rattle.run.proofs.Steps.{acting-piece, got-piece, last-next, refusal-piece, over-nothing, walking-piece, gaveBy}
+use Rattle.run.proofs.Steps.{acting-piece, got-piece, last-next, refusal-piece, over-nothing, walking-piece}
 use Rattle.blocks.specs.ToCome.{toCome}
 use Rattle.blocks.proofs.Pieces.{Gives}
 
@@ -61,10 +59,10 @@ come-acting : (file : List ℕ) (w : World) → w .run .phase ≡ Acting
 unfolding toCome
 come-acting file w e = rw e
 
-come-walking : (file : List ℕ) (w : World) (n : Node) (steps : ℕ) → w .run .phase ≡ Walking n steps
-    → toCome file w ≡ addressesText (map (λ n. address (addressAt (memoryOf w) n)) (walk steps (memoryOf w) n)) ++ (newline ∷ [])
+come-walking : (file : List ℕ) (w : World) (n : Node) → w .run .phase ≡ Walking n
+    → toCome file w ≡ addressesText (map (λ n. address (addressAt (memoryOf w) n)) (nodesAfter (memoryOf w) n)) ++ (newline ∷ [])
 unfolding toCome
-come-walking file w n steps e = rw e
+come-walking file w n e = rw e
 
 come-over : (file : List ℕ) (w : World) → w .run .phase ≡ Over → toCome file w ≡ []
 unfolding toCome
@@ -135,19 +133,20 @@ module _ (file : List ℕ) (w : World) where
   abbrev addresses : List Node → List Address
   addresses nodes = map (λ n. address (addressAt (memoryOf w) n)) nodes
 
-  -- by what a step of the walk gave
-  walks-by : (steps : ℕ) (x : Walked)
-      → Told file (text (elim x [ Onto n a ↦ a ∷ addresses (walk steps (memoryOf w) n) | Ends ↦ [] ])) (gaveBy w steps x)
+  -- by what lies ahead
+  walks-by : (x : Ahead) → Told file (text (addresses (after (memoryOf w .count) (memoryOf w) x))) (putAhead w x)
   unfolding toCome addressesText
-  walks-by steps (Onto n a) = ((λ z. omega (arith, acts _ z)), append-assoc (space ∷ decimal (a .0)) _ (newline ∷ []), omega arith)
-  walks-by steps Ends = ((λ z. omega (arith, acts _ z)), refl, omega arith)
+  walks-by (onto n) =
+      ((λ z. omega (arith, acts _ z)), append-assoc (space ∷ decimal (addressAt (memoryOf w) n)) _ (newline ∷ []), omega arith)
+  walks-by tailAhead = ((λ z. omega (arith, acts _ z)), refl, omega arith)
+  walks-by notInUse = ((λ z. omega (arith, acts _ z)), refl, omega arith)
+  walks-by notAbove = ((λ z. omega (arith, acts _ z)), refl, omega arith)
 
-  walks : (n : Node) (steps : ℕ) → Told file (text (addresses (walk steps (memoryOf w) n))) (addressNext w n steps)
-  unfolding addressNext walk toCome addressesText
-  walks n zero = ((λ z. omega (arith, acts _ z)), refl, omega arith)
-  walks n (suc steps) =
-      subst (λ rest. Told file (text rest) (gaveBy w steps (walkedFrom (memoryOf w) n))) (sym (walk-by-steps (memoryOf w) n steps))
-      (walks-by steps (walkedFrom (memoryOf w) n))
+  walks : (n : Node) → Told file (text (addresses (nodesAfter (memoryOf w) n))) (addressNext w n)
+  unfolding addressNext
+  walks n =
+      let m = memoryOf w in
+      subst (λ rest. Told file (text (addresses rest)) (putAhead w (ahead m n))) (sym (nodes-after m n)) (walks-by (ahead m n))
 
 -- ---- every phase
 
@@ -156,7 +155,7 @@ told file w numbered (Refusing n) e =
     rw (refusal-piece file w n e)
     ((λ z. omega (arith, acts _ z)), rw (come-refusing file w n e, come-over file (inPhase Over w) refl, append-nil), line-some 0 (outcome.Refused n))
 told file w numbered Acting e = rw (acting-piece file w e) (by-read file w e numbered (eventAt file (w .run .cursor)) refl)
-told file w numbered (Walking n steps) e = rw (walking-piece file w n steps e, come-walking file w n steps e) (walks file w n steps)
+told file w numbered (Walking n) e = rw (walking-piece file w n e, come-walking file w n e) (walks file w n)
 told file w numbered Over e = rw (over-nothing file w e) (come-over file w e)
 
 pub run-gives : (file : List ℕ) → Gives World (nextPiece file) (Numbered file) (toCome file)

@@ -12,11 +12,11 @@ use Rattle.record.specs.declared.Address.{Address}
 use Rattle.record.specs.declared.Record.{Record}
 use Rattle.record.specs.declared.Event.{Event}
 use Rattle.record.specs.declared.Outcome.{Outcome}
-use Rattle.table.specs.Words.{Memory, addressAt, inUse, rank, targetOf, aboveAll}
+use Rattle.table.specs.Words.{Memory, addressAt, inUse, rank, targetOf}
 use Rattle.table.specs.Chain.{follows, Ahead, onto, tailAhead, notInUse, notAbove, aheadOf, ahead, walk, chain, chainAddresses}
 use Rattle.table.specs.Events.{State, Leaves, event, runs, outcomes}
 use Rattle.table.proofs.Laws.Fitting.{Room, Beyond, longer}
-use Rattle.chain.proofs.Walks.{after, ahead-onto}
+use Rattle.table.proofs.Laws.Ahead.{after, ahead-onto}
 use Rattle.table.proofs.Laws.Sizes.{Agree, ranks-agree, longer-agrees, Holds, holds-stays, room-stays, longerState, beyond-untouched}
 use Rattle.text.specs.Text.{keysLine}
 use Rattle.run.specs.Output.{lines, stopLine, played}
@@ -93,9 +93,9 @@ module _ (m m′ : Memory) (agree : Agree m m′) where
       by again notInUse e = refl
       by again notAbove e = refl
 
-  chain-agrees : chainAddresses m ≡ chainAddresses m′
+  chain-agrees : m .count ≡ m′ .count → chainAddresses m ≡ chainAddresses m′
   unfolding chainAddresses chain
-  chain-agrees = walk-agrees aboveAll headNode (agree .head)
+  chain-agrees same = walk-agrees (m .count) headNode (agree .head) ∙ ap (λ steps. addressesOf m′ (walk steps m′ headNode)) same
 
 -- ---- the same lines and the same last line
 
@@ -105,5 +105,5 @@ unfolding played
 played-longer b rs number σ es ended s =
     let t = runs-longer b rs es σ s in
     let m = runs σ es .memory in
-    let keys = ap (λ (σ : State). chainAddresses (σ .memory)) (t .0) ∙ sym (chain-agrees m (longer b m) (longer-agrees m (t .1 .room) b)) in
+    let keys = ap (λ (σ : State). chainAddresses (σ .memory)) (t .0) ∙ sym (chain-agrees m (longer b m) (longer-agrees m (t .1 .room) b) refl) in
     λ i. lines number (outcomes-longer b rs es σ s i) ++ (stopLine (number + length es) ended ++ keysLine (keys i))

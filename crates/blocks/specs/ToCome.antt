@@ -5,7 +5,7 @@ use lib.ListN.{take}
 use Rattle.record.specs.Record.{address}
 use Rattle.record.specs.declared.Outcome.the-variants.{Refused}
 use Rattle.table.specs.Words.{addressAt}
-use Rattle.table.specs.Chain.{walk}
+use Rattle.table.specs.Chain.{nodesAfter}
 use Rattle.files.specs.Comes.{comes, ends}
 use Rattle.text.specs.Text.{line, addressesText, newline}
 use Rattle.run.specs.declared.Phase.the-variants.{Refusing, Acting, Walking, Over}
@@ -18,7 +18,7 @@ toCome file w =
     elim (w .run .phase) [
       | Refusing n ↦ line 0 (Refused n)
       | Acting ↦ played (w .run .number) (tableOf w) (comes file (w .run .cursor)) (ends file (w .run .cursor))
-      | Walking n steps ↦ addressesText (map (λ n. address (addressAt (memoryOf w) n)) (walk steps (memoryOf w) n)) ++ (newline ∷ [])
+      | Walking n ↦ addressesText (map (λ n. address (addressAt (memoryOf w) n)) (nodesAfter (memoryOf w) n)) ++ (newline ∷ [])
       | Over ↦ []
     ]
 

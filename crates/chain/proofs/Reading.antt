@@ -1,29 +1,27 @@
 -- Where reading the chain into a buffer stands, how it goes on and how it ends. Rests on Walks.
 use mathlib.Core.Path.{_≡_, refl, sym, _∙_, ap}
-use mathlib.Core.Logic.{_≢_}
 use mathlib.Core.Bool.{Bool, true, false}
 use mathlib.Core.List.{List, [], _∷_, _++_, map}
-use Prim.Native.Nat.{ℕ, zero, suc, _+_, _-_, _≤_, _<_}
+use Prim.Native.Nat.{ℕ, zero, suc, _+_, _≤_, _<_}
 use native.Mathlib.Nat.{zero-add, add-zero}
 use native.Mathlib.Numerals.{add-one}
 use native.Mathlib.Omega.{arith}
 use lib.ListN.{length, getD, set, take, drop, length-map, length-drop, length-set}
 use lib.Seq.{length-take-le, take-all, take-add, drop-drop, getD-drop, paste-suc}
-use Rattle.basics.proofs.Tests.{if-eq}
-use Rattle.record.specs.Record.{headNode, tailNode, address}
+use Rattle.record.specs.Record.{headNode, address}
 use Rattle.record.specs.declared.Node.{Node}
 use Rattle.record.specs.declared.Address.{Address}
-use Rattle.table.specs.Words.{Memory, addresses≔, links≔, addressAt, rank, addressLimit, aboveAll}
+use Rattle.table.specs.Words.{Memory, addresses≔, links≔, addressAt}
 use Rattle.table.specs.Events.{tablesFit}
-use Rattle.table.specs.Chain.{lastOf, ahead, walk, chain, chainAddresses}
+use Rattle.table.specs.Chain.{lastOf, nodesAfter, chain, chainAddresses}
 use Rattle.words.specs.declared.Sizes.{Sizes}
 use Rattle.words.specs.LentMemory.{lentMemory, sized}
 use Rattle.chain.specs.declared.Ahead.{Ahead}
 use Rattle.chain.specs.declared.Ahead.the-variants.{Next}
 use Rattle.chain.specs.declared.Keys.the-variants.{Read, Refused}
-use Rattle.chain.specs.Walking.{aheadIn}
+use Rattle.chain.specs.Walking.{aheadFrom}
 use Rattle.chain.specs.Keys.{BufferLeft, bufferLeft, numbers, readKeys, keysOf}
-use Rattle.chain.proofs.Walks.{ahead-onto, walk-goes, walk-stops, Stops, told-next, told-stops}
+use Rattle.chain.proofs.Walks.{Stops, told-next, goes-to, ends-at}
 
 -- ---- lists: what is known of l where a part of it begins with x
 
@@ -68,21 +66,11 @@ pub record Along (m : Memory) (before buffer : List ℕ) (from : Node) (read : �
   pub passed : read ≤ length (chain m)
   pub words : buffer ≡ take read (keysOn m) ++ drop read before
   pub stands : from ≡ lastOf headNode (take read (chain m))
-  pub rest : walk (aboveAll - read) m from ≡ drop read (chain m)
-  pub steps : read ≤ rank (m .addresses) from
-  pub ranked : rank (m .addresses) from < aboveAll
+  pub rest : nodesAfter m from ≡ drop read (chain m)
 
 along-start : (m : Memory) (before : List ℕ) → Along m before before headNode 0
-unfolding chain rank
-along-start m before =
-    record { passed = omega arith; words = refl; stands = refl; rest = refl; steps = omega arith; ranked = omega arith }
-
--- any node but tail sorts below aboveAll
-rank-below : (addresses : List ℕ) (n : Node) → n .0 ≢ tailNode .0 → getD addresses (n .0) 0 < addressLimit → rank addresses n < aboveAll
-unfolding rank
-rank-below addresses n inner small =
-    if-eq (λ x. x < aboveAll) (n .0) (headNode .0) (λ e. omega arith)
-    (λ _. if-eq (λ x. x < aboveAll) (n .0) (tailNode .0) (λ e. absurd (inner e)) (λ _. omega arith))
+unfolding chain
+along-start m before = record { passed = omega arith; words = refl; stands = refl; rest = refl }
 
 -- the word written is the next of the buffer
 one-word-more : (keys before : List ℕ) (read : ℕ) (x : ℕ) (xs : List ℕ) → read < length before → drop read keys ≡ x ∷ xs →
@@ -92,26 +80,19 @@ one-word-more keys before read x xs room e =
     rw (add-one, ← is) (simp zero-add at (paste-suc before 0 keys read 0 (omega arith) (below-length read keys x xs e)))
 
 module _ (m : Memory) (before buffer : List ℕ) (from : Node) (read : ℕ) (w : Along m before buffer from read) (x : Ahead)
-    (told : x ≡ aheadIn (ahead m from)) where
-  along-on : (next : Node) (word : ℕ) → x ≡ Next next → read < length before → word ≡ addressAt m next → word < addressLimit
-      → Along m before (set buffer read word) next (read + 1)
-  unfolding addressAt
-  along-on next word is room e small =
-      let on = told-next m from x told next is in
-      let goes = ahead-onto m from next on in
-      let left = walk (aboveAll - (read + 1)) m next in
-      let fuel : aboveAll - read ≡ suc (aboveAll - (read + 1)) = omega (arith, w .steps, w .ranked) in
-      let part : drop read (chain m) ≡ next ∷ left
-      = sym (w .rest) ∙ ap (λ k. walk k m from) fuel ∙ walk-goes m from next (aboveAll - (read + 1)) on in
-      let keys : drop read (keysOn m) ≡ word ∷ map (λ n. addressAt m n) left
-      = ap (drop read) (keys-on m) ∙ drop-map (λ n. addressAt m n) read (chain m) ∙ ap (map (λ n. addressAt m n)) part ∙ rw e in
+    (told : x ≡ aheadFrom m from) where
+  along-on : (next : Node) (a : Address) → x ≡ Next next a → read < length before → Along m before (set buffer read (a .0)) next (read + 1)
+  along-on next a is room =
+      let left = nodesAfter m next in
+      let named : addressAt m next ≡ a .0 = ap (λ (a : Address). a .0) (sym (told-next m from x told next a is .1)) in
+      let part : drop read (chain m) ≡ next ∷ left = sym (w .rest) ∙ goes-to m from x told next a is in
+      let keys : drop read (keysOn m) ≡ a .0 ∷ map (λ n. addressAt m n) left
+      = ap (drop read) (keys-on m) ∙ drop-map (λ n. addressAt m n) read (chain m) ∙ ap (map (λ n. addressAt m n)) part ∙ rw named in
       record {
         passed = let h = below-length read (chain m) next _ part in omega arith;
-        words = ap (λ b. set b read word) (w .words) ∙ one-word-more (keysOn m) before read word _ room keys;
+        words = ap (λ b. set b read (a .0)) (w .words) ∙ one-word-more (keysOn m) before read (a .0) _ room keys;
         stands = sym (ap (lastOf headNode) (take-one-more read (chain m) next _ part) ∙ lastOf-more headNode (take read (chain m)) next);
         rest = sym (drop-one-more read (chain m) next _ part);
-        steps = omega (arith, goes .above, w .steps);
-        ranked = rank-below (m .addresses) next (goes .inner) (omega arith);
       }
 
   -- what was read is all that there was room for
@@ -127,7 +108,7 @@ module _ (m : Memory) (before buffer : List ℕ) (from : Node) (read : ℕ) (w :
 
   along-ends : read ≤ length before → Stops x → bufferLeft buffer (Read read x) ≡ readKeys m before
   along-ends room stops =
-      let none : drop read (chain m) ≡ [] = sym (w .rest) ∙ walk-stops m from (aboveAll - read) (told-stops m from x told stops) in
+      let none : drop read (chain m) ≡ [] = sym (w .rest) ∙ ends-at m from x told stops in
       let short : length (drop read (chain m)) ≡ 0 = ap length none in
       let most : length (chain m) ≤ read = omega (arith, length-drop read (chain m)) in
       ends (λ A l same. take-all (length before) l (omega arith) ∙ sym (take-all read l (omega arith)))
@@ -150,14 +131,12 @@ module _ (addresses links : List ℕ) (sizes : Sizes) (before : List ℕ) where
   read-start = record { room = omega arith; long = refl; along = λ m. along-start (Lent m) before }
 
   module _ (buffer : List ℕ) (from : Node) (read : ℕ) (w : ReadSoFar buffer from read) (x : Ahead)
-      (told : (m : Memory) → x ≡ aheadIn (ahead (Lent m) from)) where
-    pub read-on : (next : Node) (word : ℕ) → x ≡ Next next → read < length before → word ≡ getD addresses (next .0) 0 → word < addressLimit
-        → ReadSoFar (set buffer read word) next (read + 1)
-    unfolding addressAt
-    read-on next word is room e small = record {
+      (told : (m : Memory) → x ≡ aheadFrom (Lent m) from) where
+    pub read-on : (next : Node) (a : Address) → x ≡ Next next a → read < length before → ReadSoFar (set buffer read (a .0)) next (read + 1)
+    read-on next a is room = record {
       room = omega arith;
-      long = length-set buffer read word ∙ w .long;
-      along = λ m. along-on (Lent m) before buffer from read (w .along m) x (told m) next word is room e small;
+      long = length-set buffer read (a .0) ∙ w .long;
+      along = λ m. along-on (Lent m) before buffer from read (w .along m) x (told m) next a is room;
     }
 
     pub read-full : read ≡ length before → (m : Memory) → bufferLeft buffer (Read read x) ≡ readKeys (Lent m) before

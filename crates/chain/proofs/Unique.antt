@@ -5,12 +5,10 @@ use mathlib.Core.List.{List}
 use Prim.Native.Nat.{ℕ}
 use Rattle.record.specs.declared.Node.{Node}
 use Rattle.table.specs.Words.{Memory, freshMemory}
-use Rattle.table.specs.Chain.{ahead}
 use Rattle.words.specs.declared.Sizes.{Sizes}
 use Rattle.chain.specs.declared.Ahead.{Ahead}
-use Rattle.chain.specs.declared.Walked.{Walked}
 use Rattle.chain.specs.declared.Keys.{Keys}
-use Rattle.chain.specs.Walking.{aheadIn, walkedFrom}
+use Rattle.chain.specs.Walking.{aheadFrom}
 use Rattle.chain.specs.Keys.{bufferLeft, keysOf}
 use Rattle.chain.proofs.Reading.{lentIn}
 
@@ -19,12 +17,8 @@ module _ (addresses links : List ℕ) (sizes : Sizes) (from : Node) where
   abbrev Lent : Memory → Memory
   Lent = lentIn addresses links sizes
 
-  pub onward-unique : {a b : Ahead} → ((m : Memory) → a ≡ aheadIn (ahead (Lent m) from)) → ((m : Memory) → b ≡ aheadIn (ahead (Lent m) from))
-      → a ≡ b
+  pub onward-unique : {a b : Ahead} → ((m : Memory) → a ≡ aheadFrom (Lent m) from) → ((m : Memory) → b ≡ aheadFrom (Lent m) from) → a ≡ b
   onward-unique e h = let m = freshMemory 2 1 in e m ∙ sym (h m)
-
-  pub walk-on-unique : {a b : Walked} → ((m : Memory) → a ≡ walkedFrom (Lent m) from) → ((m : Memory) → b ≡ walkedFrom (Lent m) from) → a ≡ b
-  walk-on-unique e h = let m = freshMemory 2 1 in e m ∙ sym (h m)
 
 pub chain-addresses-unique : (m : Memory) (buffer : List ℕ) {xs ys : List ℕ} {a b : Keys}
     → bufferLeft xs a ≡ keysOf m buffer → bufferLeft ys b ≡ keysOf m buffer → (xs ≡ ys) × (a ≡ b)

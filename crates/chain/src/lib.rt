@@ -3,9 +3,9 @@ ghost use mathlib.Core.Path.{_≡_};
 ghost use lib.Dec.{ltb, eqb};
 ghost use Rattle.record.specs.Record.{tailNode};
 ghost use Rattle.table.specs.Words.{Memory, addresses≔, links≔};
-ghost use Rattle.table.specs.Chain.{ahead, aheadOf};
+ghost use Rattle.table.specs.Chain.{aheadOf};
 ghost use Rattle.words.specs.LentMemory.{lentMemory, sized};
-ghost use Rattle.chain.specs.Walking.{aheadIn, walkedFrom};
+ghost use Rattle.chain.specs.Walking.{aheadIn, aheadFrom};
 ghost use Rattle.chain.specs.Keys.{bufferLeft, readKeys, keysOf};
 use record::Address;
 use record::HEAD;
@@ -14,67 +14,53 @@ use record::TAIL;
 use record::either;
 use words::Sizes;
 
-// What the walk along the chain meets after a node: a node to go on to, or why it stops.
+// What the walk along the chain meets after a node: a node to go on to, with its address, or why it stops.
 pub enum Ahead {
-    Next(Node),
+    Next(Node, Address),
     Tail,
     NotInUse,
     NotAbove,
 }
 
-// A node that the walk goes on to, with its address, or the end of the walk.
-pub enum Walked {
-    Onto(Node, Address),
-    Ends,
-}
-
 // What reading the chain's addresses comes to: refused with its number, or how many were written and what the walk met after the last of
-// them: a next node, where the buffer was full.
+// them: a next node with its address, where the buffer was full.
 pub enum Keys {
     Refused(u8),
     Read(usize, Ahead),
 }
 
-// Whether the walk at rank `from` goes on to a target at rank `to`, in use or not, or why it stops.
-fn judge(target: Node, used: bool, from: u64, to: u64) -> Ahead
-    ensures { λ r. ⌜ r ≡ aheadIn (aheadOf target (eqb (target .0) (tailNode .0)) used (ltb from to)) ⌝ }
+// Whether the walk at rank `from` goes on to a target at rank `to`, in use or not, or why it stops. The target's address is looked at only where
+// the walk goes on to it.
+fn judge(addresses: &[u32], target: Node, used: bool, from: u64, to: u64) -> Ahead
+    ensures { λ r. ⌜ ((m : Memory) → r ≡
+        aheadIn (addresses≔ (now (addresses .entry)) m) (aheadOf target (eqb (target .0) (tailNode .0)) used (ltb from to))) ⌝ }
 {
     if target.0 == TAIL.0 {
         return Ahead::Tail;
     }
     if used {
         if from < to {
-            return Ahead::Next(target);
+            let address = words::word_at(addresses, target);
+            return Ahead::Next(target, Address(address));
         }
         return Ahead::NotAbove;
     }
     Ahead::NotInUse
 }
 
-// What the walk meets after a node. The target's address is looked at only where the target is in use.
+// The step of the walk: what it meets after a node. Where the target sorts is looked at only where the target is in use.
 pub fn onward(addresses: &[u32], links: &[u32], sizes: Sizes, from: Node) -> Ahead
-    ensures { λ r. ⌜ ((m : Memory) → r ≡ aheadIn (ahead (sized sizes (links≔ (now (links .entry)) (addresses≔ (now (addresses .entry)) m))) from)) ⌝ }
+    ensures { λ r. ⌜ ((m : Memory) → r ≡ aheadFrom (sized sizes (links≔ (now (links .entry)) (addresses≔ (now (addresses .entry)) m))) from) ⌝ }
 {
     let target = words::target_of(words::word_at(links, from));
     let used = words::in_use(links, sizes, target);
     judge(
+        addresses,
         target,
         used,
         words::rank_of(addresses, from),
         words::rank_of(addresses, either(used, target, HEAD)),
     )
-}
-
-// From a node to the next.
-pub fn walk_on(addresses: &[u32], links: &[u32], sizes: Sizes, from: Node) -> Walked
-    ensures { λ r. ⌜ ((m : Memory) → r ≡ walkedFrom (sized sizes (links≔ (now (links .entry)) (addresses≔ (now (addresses .entry)) m))) from) ⌝ }
-{
-    let ahead = onward(addresses, links, sizes, from);
-    let Ahead::Next(onto) = ahead else {
-        return Walked::Ends;
-    };
-    let address = words::word_at(addresses, onto);
-    Walked::Onto(onto, Address(address))
 }
 
 // As many of the chain's addresses as the buffer has room for.
@@ -86,13 +72,13 @@ fn read_chain(addresses: &[u32], links: &[u32], sizes: Sizes, buffer: &mut [u32]
     let mut read: usize = 0;
     loop {
         let ahead = onward(addresses, links, sizes, from);
-        let Ahead::Next(onto) = ahead else {
+        let Ahead::Next(onto, address) = ahead else {
             return Keys::Read(read, ahead);
         };
         if read == buffer.len() {
             return Keys::Read(read, ahead);
         }
-        buffer[read] = words::word_at(addresses, onto);
+        buffer[read] = address.0;
         read += 1;
         from = onto;
     }

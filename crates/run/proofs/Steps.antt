@@ -1,17 +1,18 @@
--- What comes next in a run, by what its reader, its list and its walk gave. Rests on Pieces and on the table's law of an event in a row (Meets).
-use Prim.Native.Nat.{ℕ, zero, suc, _-_, _<_, _≤_}
+-- What comes next in a run, by what its reader, its list and its walk gave. Rests on Pieces, on the table's law of an event in a row (Meets) and on
+-- what the walk was told (the chain's Walks).
+use Prim.Native.Nat.{ℕ, suc, _-_, _<_, _≤_}
 use mathlib.Core.List.{List, [], _∷_}
-use mathlib.Core.Bool.{Bool, false, cond, false≢true}
+use mathlib.Core.Bool.{Bool, false, false≢true}
 use mathlib.Core.Path.{_≡_, refl, ap, sym, _∙_}
 use mathlib.Core.Logic.{_⊎_, ⊎-elim}
 use native.Mathlib.Omega.{arith}
-use borrow.Author.Tests.{lt-ltb, ne-eqb}
-use lib.Dec.{eqb}
+use borrow.Author.Tests.{lt-ltb}
 use lib.ListN.{length, length-append, getD, set}
 use lib.Seq.{set-getD}
 use denote.Enum.Declared.{tagOf}
 use Rattle.record.specs.Record.{freshRecord, process}
 use Rattle.record.specs.declared.Node.{Node}
+use Rattle.record.specs.declared.Address.{Address}
 use Rattle.record.specs.declared.Process.{Process}
 use Rattle.record.specs.declared.Event.{Event}
 use Rattle.record.specs.declared.Action.{Action}
@@ -36,9 +37,10 @@ use Rattle.schedule.specs.Cursors.{start, headerAt, eventAt}
 use Rattle.fresh.specs.Fresh.{tablesLeft, freshSizes, freshTables}
 use Rattle.fresh.specs.declared.Made.{Made}
 use Rattle.schedule.proofs.EventRead as event-read
-use Rattle.chain.specs.Walking.{walkedFrom}
-use Rattle.chain.specs.declared.Walked.{Walked}
-use Rattle.chain.specs.declared.Walked.the-variants.{Onto, Ends}
+use Rattle.chain.specs.Walking.{aheadFrom}
+use Rattle.chain.specs.declared.Ahead.{Ahead}
+use Rattle.chain.specs.declared.Ahead.the-variants as ahead
+use Rattle.chain.proofs.Walks.{Stops, told-next, told-stops}
 use Rattle.text.specs.Text.{line, decimal, space, newline}
 use Rattle.run.specs.declared.Phase.{Phase}
 use Rattle.run.specs.declared.Phase.the-variants.{Refusing, Acting, Walking, Over}
@@ -46,7 +48,7 @@ use Rattle.run.specs.declared.Run.{Run}
 use Rattle.run.proofs.Phase as phase-type
 use Rattle.run.specs.Filling.{Next, piece, nothing, stop, fillFrom}
 use Rattle.run.specs.Pieces.{World, world, runOf, memoryOf, tableOf, inPhase, nextNumber, wentOn, toWalk}
-use Rattle.run.specs.Pieces.{eventNext, addressNext, nextPiece, fills, refusing, startOf, begins}
+use Rattle.run.specs.Pieces.{eventNext, putAhead, addressNext, nextPiece, fills, refusing, startOf, begins}
 use Rattle.run.specs.PrivatePromises.{Ready, slotOf, isAccepted, stoppedText, lastText}
 use Rattle.run.proofs.Fills.{FillsTo, full, at-end}
 
@@ -153,31 +155,24 @@ over-nothing file w e = rw e
 
 -- ---- the walk
 
-pub walking-piece : (file : List ℕ) (w : World) (n : Node) (steps : ℕ) → w .run .phase ≡ Walking n steps → nextPiece file w ≡ addressNext w n steps
+pub walking-piece : (file : List ℕ) (w : World) (n : Node) → w .run .phase ≡ Walking n → nextPiece file w ≡ addressNext w n
 unfolding nextPiece
-walking-piece file w n steps e = rw e
+walking-piece file w n e = rw e
 
-module _ (w : World) where
-  -- by what a step of it gave
-  abbrev pub gaveBy : (left : ℕ) → Walked → Next World
-  gaveBy left x =
-      elim x [
-        | Onto onto a ↦ piece (space ∷ decimal (a .0)) (inPhase (Walking onto left) w)
-        | Ends ↦ piece (newline ∷ []) (inPhase Over w)
-      ]
-
-  address-next : (n : Node) (steps : ℕ) → addressNext w n steps ≡ gaveBy (steps - 1) (cond (eqb steps 0) Ends (walkedFrom (memoryOf w) n))
+-- by the promise of `onward`
+module _ (w : World) (file : List ℕ) (n : Node) (walking : w .run .phase ≡ Walking n) (x : Ahead) (told : x ≡ aheadFrom (memoryOf w) n) where
+  pub onto-piece : (next : Node) (a : Address) → x ≡ ahead.Next next a
+      → nextPiece file w ≡ piece (space ∷ decimal (a .0)) (inPhase (Walking next) w)
   unfolding addressNext
-  address-next n zero = refl
-  address-next n (suc steps) =
-      let one-less : suc steps - 1 ≡ steps = omega arith in
-      rw (ne-eqb (suc steps) 0 (λ z. omega arith), one-less)
+  onto-piece next a e =
+      let met = told-next (memoryOf w) n x told next a e in
+      walking-piece file w n walking ∙ rw (met .1) (ap (putAhead w) (met .0))
 
-  -- by the promise of `walk_within`
-  pub walk-piece : (file : List ℕ) (n : Node) (steps left : ℕ) (x y : Walked) → w .run .phase ≡ Walking n steps
-      → x ≡ cond (eqb steps 0) Ends (walkedFrom (memoryOf w) n) → left ≡ steps - 1 → x ≡ y → nextPiece file w ≡ gaveBy left y
-  walk-piece file n steps left x y walking is fewer e =
-      walking-piece file w n steps walking ∙ (address-next n steps ∙ (λ i. gaveBy (sym fewer i) ((sym is ∙ e) i)))
+  pub end-piece : Stops x → nextPiece file w ≡ piece (newline ∷ []) (inPhase Over w)
+  unfolding addressNext
+  end-piece stops =
+      walking-piece file w n walking
+      ∙ told-stops (memoryOf w) n x told (λ y. putAhead w y ≡ piece (newline ∷ []) (inPhase Over w)) stops refl refl refl
 
 -- ---- how a run begins
 
@@ -211,6 +206,6 @@ not-walking file w block at turns tag ready = by (w .run .phase) refl tag ready
         → stop w block at ≡ fillFrom (nextPiece file) turns w block at
     by (Refusing n) e t r = full (nextPiece file) w block at turns r
     by Acting e t r = full (nextPiece file) w block at turns r
-    by (Walking n steps) e t r =
+    by (Walking n) e t r =
         absurd (⊎-elim (λ (p : 2 ≡ 0). omega arith) (⊎-elim (λ (p : 2 ≡ 1). omega arith) (λ (p : 2 ≡ 3). omega arith)) t)
     by Over e t r = at-end (nextPiece file) w block at turns (over-nothing file w e)

@@ -2,22 +2,21 @@
 -- table's events, the walk along the chain and the text.
 use mathlib.Core.Bool.{cond}
 use mathlib.Core.List.{List, [], _∷_, _++_}
-use Prim.Native.Nat.{ℕ, zero, suc, _+_}
+use Prim.Native.Nat.{ℕ, suc, _+_}
 use lib.Dec.{ltb}
 use lib.ListN.{length, replicate}
 use Rattle.record.specs.Record.{freshRecord, headNode}
 use Rattle.record.specs.declared.Node.{Node}
 use Rattle.record.specs.declared.Record.{Record}
 use Rattle.record.specs.declared.Outcome.the-variants as outcome
-use Rattle.table.specs.Words.{Memory, aboveAll}
+use Rattle.table.specs.Words.{Memory, addressAt}
+use Rattle.table.specs.Chain.{Ahead, onto, tailAhead, notInUse, notAbove, ahead}
 use Rattle.table.specs.Events.{State, stateOf, event}
 use Rattle.words.specs.LentMemory.{sized, sizesOf}
 use Rattle.words.specs.declared.Sizes.{Sizes}
 use Rattle.fresh.specs.Fresh.{freshSizes, freshTables}
 use Rattle.fresh.specs.declared.Made.{Made}
 use Rattle.fresh.specs.declared.Made.the-variants.{Fresh, Refused}
-use Rattle.chain.specs.Walking.{walkedFrom}
-use Rattle.chain.specs.declared.Walked.the-variants.{Onto, Ends}
 use Rattle.schedule.specs.declared.Cursor.{Cursor}
 use Rattle.schedule.specs.declared.EventRead.the-variants as read
 use Rattle.schedule.specs.declared.HeaderRead.the-variants as header
@@ -64,7 +63,7 @@ wentOn w next σ = world (σ .memory) (runOf (w .run .phase) next (sizesOf (σ .
 
 -- the walk for the last line begins at head
 abbrev pub toWalk : World → World
-toWalk w = inPhase (Walking headNode aboveAll) w
+toWalk w = inPhase (Walking headNode) w
 
 -- "An event is acted on only where it was read; otherwise the run stops there."
 unfoldable pub eventNext : (file : List ℕ) → World → Next World
@@ -78,13 +77,15 @@ eventNext file w =
     ]
 
 -- "the address of every node on the chain between head and tail, rising, decimal, each after a space"
-unfoldable pub addressNext : World → Node → (steps : ℕ) → Next World
-addressNext w n zero = piece (newline ∷ []) (inPhase Over w)
-addressNext w n (suc steps) =
-    elim (walkedFrom (memoryOf w) n) [
-      | Onto onto a ↦ piece (space ∷ decimal (a .0)) (inPhase (Walking onto steps) w)
-      | Ends ↦ piece (newline ∷ []) (inPhase Over w)
-    ]
+abbrev pub putAhead : World → Ahead → Next World
+putAhead w (onto n) = piece (space ∷ decimal (addressAt (memoryOf w) n)) (inPhase (Walking n) w)
+putAhead w tailAhead = piece (newline ∷ []) (inPhase Over w)
+putAhead w notInUse = piece (newline ∷ []) (inPhase Over w)
+putAhead w notAbove = piece (newline ∷ []) (inPhase Over w)
+
+-- by what lies ahead of a node
+unfoldable pub addressNext : World → Node → Next World
+addressNext w n = putAhead w (ahead (memoryOf w) n)
 
 -- "A bad header prints only `0 refused N`."
 unfoldable pub nextPiece : (file : List ℕ) → World → Next World
@@ -92,7 +93,7 @@ nextPiece file w =
     elim (w .run .phase) [
       | Refusing n ↦ piece (line 0 (outcome.Refused n)) (inPhase Over w)
       | Acting ↦ eventNext file w
-      | Walking n steps ↦ addressNext w n steps
+      | Walking n ↦ addressNext w n
       | Over ↦ nothing
     ]
 

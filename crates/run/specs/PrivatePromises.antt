@@ -40,7 +40,7 @@ FilledOn addresses links before block from after filled count =
 abbrev pub Ready : Phase → (room : ℕ) → Type 0
 Ready (Refusing n) room = room < 64
 Ready Acting room = room < 64
-Ready (Walking n steps) room = Unit
+Ready (Walking n) room = Unit
 Ready Over room = Unit
 
 -- The place of a process's record in a row of 64, by the stated number of processes. A process that is not there is refused; it has the first place.

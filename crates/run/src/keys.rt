@@ -2,44 +2,16 @@
 use crate::Filled;
 use crate::Phase;
 use crate::Run;
-use chain::Walked;
-use chain::walk_on;
+use chain::Ahead;
+use chain::onward;
 use record::Node;
 use text::put_address;
 use text::put_newline;
-use words::Sizes;
 ghost use mathlib.Core.Path.{_≡_};
-ghost use mathlib.Core.Bool.{cond};
 ghost use Prim.Native.Nat.{_≤_, _-_};
-ghost use lib.Dec.{eqb};
 ghost use lib.ListN.{length};
-ghost use Rattle.table.specs.Words.{Memory, addresses≔, links≔};
-ghost use Rattle.words.specs.LentMemory.{sized};
-ghost use Rattle.chain.specs.Walking.{walkedFrom};
-ghost use Rattle.chain.specs.declared.Walked.the-variants.{Ends};
 ghost use Rattle.run.specs.declared.Phase.the-variants.{Walking};
 ghost use Rattle.run.specs.PrivatePromises.{FilledOn, Ready};
-
-// One step of the walk, while it has steps left.
-fn walk_within(addresses: &[u32], links: &[u32], sizes: Sizes, from: Node, steps: u64) -> Walked
-    ensures { λ r. ⌜ ((m : Memory) → r ≡ cond (eqb steps 0) Ends
-        (walkedFrom (sized sizes (links≔ (now (links .entry)) (addresses≔ (now (addresses .entry)) m))) from)) ⌝ }
-{
-    if steps == 0 {
-        return Walked::Ends;
-    }
-    walk_on(addresses, links, sizes, from)
-}
-
-// One step fewer.
-fn fewer(steps: u64) -> u64
-    ensures { λ r. ⌜ r ≡ steps - 1 ⌝ }
-{
-    if steps == 0 {
-        return 0;
-    }
-    steps - 1
-}
 
 // Addresses, until the block has no room for one more or the line is ended.
 fn fill_addresses(
@@ -49,30 +21,27 @@ fn fill_addresses(
     from: usize,
     run: Run,
     node: Node,
-    steps: u64,
 ) -> Filled
     requires { ⌜ from ≤ length (now block) ⌝ }
-    requires { ⌜ run .phase ≡ Walking node steps ⌝ }
+    requires { ⌜ run .phase ≡ Walking node ⌝ }
     ensures { λ r. ⌜ FilledOn (now (addresses .entry)) (now (links .entry)) run (now (block .entry)) from (r .run) (now (block .exit)) (r .count) ⌝ }
     ensures { λ r. ⌜ r .count ≤ length (now (block .exit)) ⌝ }
 {
     let sizes = run.sizes;
     let mut at = from;
     let mut here = node;
-    let mut left = steps;
     loop {
         if block.len() - at < 64 {
-            let run = run.in_phase(Phase::Walking(here, left));
+            let run = run.in_phase(Phase::Walking(here));
             return Filled { count: at, run };
         }
-        let walked = walk_within(addresses, links, sizes, here, left);
-        let Walked::Onto(onto, address) = walked else {
+        let ahead = onward(addresses, links, sizes, here);
+        let Ahead::Next(onto, address) = ahead else {
             let end = at + put_newline(&mut block[at..]);
             let run = run.in_phase(Phase::Over);
             return Filled { count: end, run };
         };
         here = onto;
-        left = fewer(left);
         at = at + put_address(&mut block[at..], address);
     }
 }
@@ -91,8 +60,8 @@ pub(crate) fn fill_keys(
     ensures { λ r. ⌜ r .count ≤ length (now (block .exit)) ⌝ }
 {
     let phase = run.phase;
-    let Phase::Walking(node, steps) = phase else {
+    let Phase::Walking(node) = phase else {
         return Filled { count: from, run };
     };
-    fill_addresses(addresses, links, block, from, run, node, steps)
+    fill_addresses(addresses, links, block, from, run, node)
 }

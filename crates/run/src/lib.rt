@@ -26,12 +26,11 @@ use schedule::read_header;
 use text::put_line;
 use words::Sizes;
 
-// What a run does next: it says why its header was refused, acts on events, walks on along the chain from a node, for at most so many steps,
-// or is over.
+// What a run does next: it says why its header was refused, acts on events, walks on along the chain from a node, or is over.
 pub enum Phase {
     Refusing(u8),
     Acting,
-    Walking(Node, u64),
+    Walking(Node),
     Over,
 }
 
@@ -166,7 +165,7 @@ fn fill_first(
     match phase {
         Phase::Refusing(number) => fill_refusal(block, run, number),
         Phase::Acting => fill_lines(file, addresses, links, deleters, block, run),
-        Phase::Walking(_, _) => Filled { count: 0, run },
+        Phase::Walking(_) => Filled { count: 0, run },
         Phase::Over => Filled { count: 0, run },
     }
 }

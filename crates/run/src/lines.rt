@@ -12,7 +12,6 @@ use schedule::EventRead;
 use schedule::read_event;
 use text::put_keys;
 use text::put_line;
-use words::ABOVE_ALL;
 use words::Sizes;
 ghost use mathlib.Core.Path.{_≡_};
 ghost use Prim.Native.Nat.{_<_, _≤_, _-_};
@@ -132,7 +131,7 @@ pub(crate) fn fill_lines(
         let read = read_event(file, cursor);
         let EventRead::Got(event, next) = read else {
             let m = put_last(&mut block[at..], number, read);
-            let walking = Phase::Walking(HEAD, ABOVE_ALL);
+            let walking = Phase::Walking(HEAD);
             return filled_to(at + m, walking, cursor, sizes, number, row);
         };
         let process = event.process;

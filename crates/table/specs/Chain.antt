@@ -8,7 +8,7 @@ use lib.Dec.{ltb, eqb}
 use Rattle.record.specs.Record.{address, headNode, tailNode}
 use Rattle.record.specs.declared.Node.{Node}
 use Rattle.record.specs.declared.Address.{Address}
-use Rattle.table.specs.Words.{Memory, addressAt, linkAt, targetOf, isMarked, inUse, rank, aboveAll}
+use Rattle.table.specs.Words.{Memory, addressAt, linkAt, targetOf, isMarked, inUse, rank}
 
 -- ---- "Held" means: on the chain from head, not head or tail, and unmarked.
 
@@ -61,9 +61,13 @@ unfoldable pub walk : (steps : ℕ) → Memory → Node → List Node
 walk zero m n = []
 walk (suc k) m n = elim (ahead m n) [ onto x ↦ x ∷ walk k m x | tailAhead ↦ [] | notInUse ↦ [] | notAbove ↦ [] ]
 
--- the nodes between head and tail; each sorts above the one before it, so that the walk ends by itself
+-- the nodes after n: each is in use and sorts above the one before it, so that none comes twice, and the walk ends by itself within the count
+abbrev pub nodesAfter : Memory → Node → List Node
+nodesAfter m n = walk (m .count) m n
+
+-- the nodes between head and tail
 unfoldable pub chain : Memory → List Node
-chain m = walk aboveAll m headNode
+chain m = nodesAfter m headNode
 
 -- the node that a walk from a node along a list stands on at its end
 abbrev pub lastOf : Node → List Node → Node

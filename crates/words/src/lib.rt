@@ -105,8 +105,8 @@ pub fn word_at(words: &[u32], n: Node) -> u32
     0
 }
 
-// Where tail sorts: past the largest address. No walk along rising nodes has as many steps.
-pub const ABOVE_ALL: u64 = 4294967297;
+// Where tail sorts: past the largest address.
+const ABOVE_ALL: u64 = 4294967297;
 
 // Where an address sorts: above head, below tail.
 fn address_rank(address: Address) -> u64

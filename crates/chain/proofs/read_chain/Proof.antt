@@ -38,9 +38,6 @@ returns-2 c =
     let told = next .before .before in
     read-full _ _ _ _ _ _ _ (told .before .loop .inv) _ (λ m. sym (next .ahead .given .1) ∙ told .onward .ensures m) (omega arith)
 
-word-at-requires : tie.Need-word-at-requires Inv-loop μ-loop
-word-at-requires c κs = search needs
-
 mul-buffer : tie.Need-mul-buffer Inv-loop μ-loop
 mul-buffer c = omega arith
 
@@ -55,10 +52,9 @@ loop-less c = omega arith
 
 loop-again : tie.Need-loop-again Inv-loop μ-loop
 loop-again c =
-    let next = c .before .before .before in
+    let next = c .before .before in
     let told = next .before .before in
-    read-on _ _ _ _ _ _ _ (told .before .loop .inv) _ (told .onward .ensures) _ (c .word-at .result) (next .ahead .given .1)
-    (omega arith) (c .word-at .ensures) (omega arith)
+    read-on _ _ _ _ _ _ _ (told .before .loop .inv) _ (told .onward .ensures) _ _ (next .ahead .given .1) (omega arith)
 
 pub read-chain-spec : {M : Type 1} → statement M
 read-chain-spec =
@@ -73,7 +69,6 @@ read-chain-spec =
     returns
     same-length-2
     returns-2
-    word-at-requires
     mul-buffer
     slice-write-buffer
     add-read

@@ -13,7 +13,7 @@ use Rattle.record.specs.declared.Address.{Address}
 use Rattle.table.specs.Words.{Memory, inUse, Write, written, nextNode, noneLeft, givenOut}
 use Rattle.table.proofs.Laws.Fitting.{Beyond, longer, count-written, count-given, Room}
 
-used-below : (m : Memory) (n : Node) → inUse m n ≡ true → n .0 < m .count
+pub used-below : (m : Memory) (n : Node) → inUse m n ≡ true → n .0 < m .count
 unfolding inUse
 used-below m n u = ltb-true (n .0) (m .count) u
 

@@ -1,15 +1,15 @@
 -- The chain of an orderly memory: the walk from head meets exactly the nodes between head and tail, each once, rising, and stops at tail. Rests on
 -- the laws Ahead and Reaching, and on Effects.
 use mathlib.Core.List.{map, List·Memᴰ, List·Memᴰ·head, List·Memᴰ·tail, List·Memᴰ·cases-cons, List·Memᴰ·not-nil}
-use Rattle.table.proofs.Common.{_≡_, refl, sym, ap, _≢_, inl, inr, List, [], _∷_, ℕ, zero, suc, _+_, _≤_, _<_, arith, ℕ-discrete}
-use Rattle.table.proofs.Common.{node, address, Node, Address, Memory, aboveAll, rank}
+use Rattle.table.proofs.Common.{_≡_, refl, sym, ap, subst, _≢_, inl, inr, List, [], _∷_, ℕ, zero, suc, _+_, _≤_, _<_, arith}
+use Rattle.table.proofs.Common.{ℕ-discrete, node, address, Node, Address, Memory, aboveAll, rank}
 use Rattle.table.specs.Words.{addressAt, rankOf}
 use Rattle.table.specs.Chain.{lastOf, tailAhead, ahead, walk, chain, chainAddresses}
 use Rattle.table.specs.Reached.{Between, RisesAbove, EachOnce, ChainListed}
 use Rattle.table.proofs.Laws.Lists.{mapped-from, mapped}
 use Rattle.table.proofs.Laws.Reaching.{Along, origin, further, front}
 use Rattle.table.proofs.Laws.Numbered.{rankIn, followsIn, On, on-number, on-node, rank-inner, rank-head}
-use Rattle.table.proofs.Laws.Ahead.{goes-onward, walk-onward, meets-tail, walk-ended}
+use Rattle.table.proofs.Laws.Ahead.{goes-onward, walk-onward, meets-tail, walk-ended, walk-ends-by-itself}
 use Rattle.table.proofs.Invariant.Effects.{Orderly}
 
 -- ---- lists that rise
@@ -90,7 +90,8 @@ module _ {m : Memory} (i : Orderly m) where
   walk-lists zero n o t l = absurd (omega (arith, rank-low n o t))
   walk-lists (suc k) n o t l = elim (ℕ-discrete (followsIn m n) 1) [
     | yes q ↦ rw (walk-ended m (node n) (meets-tail m (node n) (ap node q)) (suc k)) (tail-next n o t q)
-    | no q ↦ rw (walk-onward m (node n) k (node (followsIn m n)) (goes-onward m (node n) (record {
+    | no q ↦ rw (walk-onward m (node n) k (node (followsIn m n)) (goes-onward m (node n) (node (followsIn m n)) (record {
+      target = refl;
       not-tail = λ e. q (ap (λ n. n .0) e);
       used = i .used (followsIn m n) (further o t refl);
       above = i .rise n o t;
@@ -99,7 +100,10 @@ module _ {m : Memory} (i : Orderly m) where
 
   chain-lists : Lists 0 (chain m)
   unfolding chain
-  chain-lists = walk-lists aboveAll 0 (origin refl) (λ q. absurd (omega arith)) (omega arith)
+  chain-lists =
+      let steps = aboveAll + m .count in
+      subst (Lists 0) (walk-ends-by-itself m (node 0) steps (omega arith))
+      (walk-lists steps 0 (origin refl) (λ q. absurd (omega arith)) (omega arith))
 
   pub orderly-listed : ChainListed m
   unfolding chainAddresses

@@ -8,12 +8,11 @@ use borrow.Author.Needs.{needs}
 use borrow.Rule.Slice.PartMut.{putMid}
 use Rattle.table.specs.Words.{Memory, addresses≔, links≔}
 use Rattle.run.specs.declared.Phase.the-variants.{Walking, Over}
-use Rattle.chain.specs.declared.Walked.the-variants.{Onto, Ends}
 use Rattle.run.specs.Filling.{fillFrom}
 use Rattle.run.proofs.Fills.{Grows, FillsTo, grows-into, full, at-end, onward}
 use Rattle.text.specs.Text.{decimal, space, newline}
 use Rattle.run.specs.Pieces.{World, world, phase≔, inPhase, nextPiece}
-use Rattle.run.proofs.Steps.{walk-piece, over-nothing}
+use Rattle.run.proofs.Steps.{onto-piece, end-piece, over-nothing}
 use Rattle.run.proofs.keys.fill_addresses.Statement.{statement}
 use Rattle.run.proofs.keys.fill_addresses.Tie as tie
 
@@ -24,14 +23,14 @@ record Walks (block block₀ at : ℕ) (R : Type 0) : Type 0 where
   reached : R
 
 abbrev Inv-loop : tie.InvT-loop
-Inv-loop addresses links block₀ from run steps sizes at₀ here₀ left₀ block at here left =
+Inv-loop addresses links block₀ from run sizes at₀ here₀ block at here =
     Walks (length block) (length block₀) at
     ((file : List ℕ) (m : Memory) (turns : ℕ) → length block₀ - at₀ < turns
-    → FillsTo (nextPiece file) (world (links≔ links (addresses≔ addresses m)) (phase≔ (Walking here left) run)) block at
+    → FillsTo (nextPiece file) (world (links≔ links (addresses≔ addresses m)) (phase≔ (Walking here) run)) block at
     (fillFrom (nextPiece file) turns (world (links≔ links (addresses≔ addresses m)) run) block₀ at₀))
 
 abbrev μ-loop : tie.MeasureT-loop
-μ-loop addresses links block₀ from run steps sizes at₀ here₀ left₀ block at here left = length block - at
+μ-loop addresses links block₀ from run sizes at₀ here₀ block at here = length block - at
 
 -- ---- where the facts stand
 
@@ -39,18 +38,18 @@ abbrev μ-loop : tie.MeasureT-loop
 abbrev entry : tie.After-sizes Inv-loop μ-loop → tie.Start Inv-loop μ-loop
 entry c = let links = c .before .before in links .before .before
 
--- back from where an address is put: to the step of the walk, and to the room told
-abbrev walked-on : tie.After-put-address Inv-loop μ-loop → tie.After-walked Inv-loop μ-loop
-walked-on c = let fewer = c .before .before in fewer .before .before
+-- back from where an address is put: to the next node told, and to the room told
+abbrev next-told : tie.After-put-address Inv-loop μ-loop → tie.After-ahead Inv-loop μ-loop
+next-told c = c .before .before .before
 
-abbrev with-room : tie.After-walked Inv-loop μ-loop → tie.Else1 Inv-loop μ-loop
+abbrev with-room : tie.After-ahead Inv-loop μ-loop → tie.Else1 Inv-loop μ-loop
 with-room c = c .before .before .before
 
 -- the run that walks at the loop, in any memory
 abbrev walking : tie.At-loop Inv-loop μ-loop → Memory → World
 walking c m =
     let a = entry (c .before) .args in
-    world (links≔ (a .links .now) (addresses≔ (a .addresses .now) m)) (phase≔ (Walking (c .loop .here) (c .loop .left)) (a .run))
+    world (links≔ (a .links .now) (addresses≔ (a .addresses .now) m)) (phase≔ (Walking (c .loop .here)) (a .run))
 
 -- ---- the needs
 
@@ -81,14 +80,11 @@ returns c =
       l .inv .within,
     )
 
-walk-within-requires : tie.Need-walk-within-requires Inv-loop μ-loop
-walk-within-requires c κs = search needs
+onward-requires : tie.Need-onward-requires Inv-loop μ-loop
+onward-requires c κs = search needs
 
-enum-known-walked : tie.Need-enum-known-walked Inv-loop μ-loop
-enum-known-walked c = search needs
-
-enum-told : tie.Need-enum-told Inv-loop μ-loop
-enum-told c = search needs
+enum-known-ahead : tie.Need-enum-known-ahead Inv-loop μ-loop
+enum-known-ahead c = search needs
 
 sub-put-newline : tie.Need-sub-put-newline Inv-loop μ-loop
 sub-put-newline c = search needs
@@ -115,8 +111,7 @@ returns-2 : tie.Need-returns-2 Inv-loop μ-loop
 returns-2 c =
     let told = c .before .before .before in
     let ends = told .before .before in
-    let walked = ends .before .before in
-    let room = walked .before in
+    let room = ends .before .before in
     let at-loop = room .before in
     let l = at-loop .loop in
     let p = told .put-newline in
@@ -124,15 +119,12 @@ returns-2 c =
     (p .ensures .0) in (
       λ file m turns h.
           let w = walking at-loop m in
-          let step = walk-piece w file (l .here) (l .left) _ _ Ends refl (walked .walk-within .ensures m) refl (ends .enum-told .given .1) in
+          let step = end-piece w file (l .here) refl _ (ends .before .onward .ensures m) (ends .match .keys2) in
           let r = onward (nextPiece file) w (l .block) (l .at) (l .inv .reached file m turns h) (room .if1 .left) step g in
           rw (c .in-phase2 .ensures)
           (at-end (nextPiece file) (inPhase Over w) _ (l .at + p .result) (r .turns) (over-nothing file (inPhase Over w) refl) ∙ r .same),
       g .within,
     )
-
-fewer-requires : tie.Need-fewer-requires Inv-loop μ-loop
-fewer-requires c κs = search needs
 
 sub-put-address : tie.Need-sub-put-address Inv-loop μ-loop
 sub-put-address c = search needs
@@ -151,13 +143,13 @@ add-at c = search needs
 
 -- the address put
 address-grows : (c : tie.After-put-address Inv-loop μ-loop) →
-    let walked = walked-on c in
-    let l = with-room walked .before .loop in
+    let next = next-told c in
+    let l = with-room next .before .loop in
     let p = c .put-address in
-    Grows (space ∷ decimal (walked .walked .given .0 .1 .0 .0)) (l .block) (putMid (l .at) (length (l .block) - l .at) (l .block) (p .last .0))
+    Grows (space ∷ decimal (next .ahead .given .0 .1 .0 .0)) (l .block) (putMid (l .at) (length (l .block) - l .at) (l .block) (p .last .0))
     (l .at) (l .at + p .result)
 address-grows c =
-    let room = with-room (walked-on c) in
+    let room = with-room (next-told c) in
     let l = room .before .loop in
     let p = c .put-address in
     grows-into _ (l .block) (p .last .0) (l .at) (p .result) (l .inv .within) (omega arith) (p .kept .0) (room .if1 .left) (p .ensures .0)
@@ -168,19 +160,17 @@ loop-less c = address-grows (c .before .before) .less
 loop-again : tie.Need-loop-again Inv-loop μ-loop
 loop-again c =
     let told = c .before .before in
-    let walked = walked-on told in
-    let room = with-room walked in
+    let next = next-told told in
+    let room = with-room next in
     let at-loop = room .before in
     let l = at-loop .loop in
-    let x = walked .walked .given in
     let g = address-grows told in
     record {
       block-is = g .same-length ∙ l .inv .block-is;
       within = g .within;
       reached = λ file m turns h.
           let w = walking at-loop m in
-          let step = walk-piece w file (l .here) (l .left) _ _ (Onto (x .0 .0) (x .0 .1 .0)) refl (walked .before .before .walk-within .ensures m)
-          (told .before .before .fewer .ensures) (x .1) in
+          let step = onto-piece w file (l .here) refl _ (next .before .before .onward .ensures m) _ _ (next .ahead .given .1) in
           onward (nextPiece file) w (l .block) (l .at) (l .inv .reached file m turns h) (room .if1 .left) step g;
     }
 
@@ -195,9 +185,8 @@ fill-addresses-spec =
     in-phase-requires
     same-length
     returns
-    walk-within-requires
-    enum-known-walked
-    enum-told
+    onward-requires
+    enum-known-ahead
     sub-put-newline
     part-put-newline-start
     part-put-newline-end
@@ -206,7 +195,6 @@ fill-addresses-spec =
     in-phase-requires-2
     same-length-2
     returns-2
-    fewer-requires
     sub-put-address
     part-put-address-start
     part-put-address-end
