@@ -581,8 +581,8 @@ def cut(dice, cases):
 
 
 def long(dice, cases):
-    """About 262,144 bytes and more, a case ending at that limit or next to it: what lies past it
-    counts as absent."""
+    """About 262,144 bytes and more, a case ending at that limit or next to it: of a longer input no
+    case is answered."""
     some = b"".join(case.bytes() for case in placed(dice, 40) + large(dice, 4))
     made = [some] * (262144 // len(some) - 1)
     rest = 262144 - len(some) * len(made) + dice.pick((-1, 0, 0, 1))

@@ -13,7 +13,7 @@ enum {
     MIN_PROCESSES = 1,
     MAX_PROCESSES = 64,
     MAX_FILE = 65536,   /* bytes of a schedule */
-    MAX_CASES = 262144, /* bytes of table cases; what lies past them counts as absent */
+    MAX_CASES = 262144, /* bytes of table cases; of a longer input no case is answered */
     MAX_LENT = 64       /* words of a table, or records, that a table case may lend */
 };
 
@@ -574,11 +574,13 @@ static void put_case(const struct tables *t, int outcome)
 
 static void cases(void)
 {
-    static unsigned char bytes[MAX_CASES];
+    static unsigned char bytes[MAX_CASES + 1];
     static uint32_t address[MAX_LENT], link[MAX_LENT], deleter[MAX_LENT];
     static struct record row[MAX_LENT];
     struct tables t = {.address = address, .link = link, .deleter = deleter, .row = row};
     struct reader in = {bytes, fread(bytes, 1, sizeof bytes, stdin), 0};
+    if (in.length > MAX_CASES)
+        return;
     while (in.at < in.length) {
         struct event e = {0};
         if (!read_case(&in, &t, &e)) {

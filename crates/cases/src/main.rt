@@ -189,24 +189,16 @@ fn cut_off() {
     streams::complain(b"cases: standard output takes no more\n");
 }
 
-fn main() {
-    let mut bytes = [0u8; 262144];
-    let n = io::read_full(0, &mut bytes);
-    if n < 262144 {
-        if streams::input_broken() {
-            streams::complain(b"cases: standard input can't be read\n");
-            return;
-        }
-    }
+// Answers every case of the input; a case takes at least a byte.
+fn answer_all(input: &[u8]) {
     let mut block = [0u8; 65536];
     let mut stand = Stand {
         used: 0,
         at: 0,
         good: true,
     };
-    // a case takes at least a byte
-    for _ in 0..n {
-        stand = work(&bytes[..n], &mut block, stand);
+    for _ in 0..input.len() {
+        stand = work(input, &mut block, stand);
     }
     if stand.good {
         if writing::write_out(&block, stand.used) {
@@ -214,4 +206,19 @@ fn main() {
         }
     }
     cut_off();
+}
+
+fn main() {
+    let mut bytes = [0u8; 262145];
+    let input = streams::read_in(&mut bytes);
+    if input.broken {
+        streams::complain(b"cases: standard input can't be read\n");
+        return;
+    }
+    let length = input.count;
+    if 262144 < length {
+        streams::complain(b"cases: standard input is longer than 262144 bytes\n");
+        return;
+    }
+    answer_all(&bytes[..length]);
 }
