@@ -1,13 +1,13 @@
 -- What is gathered ends within the block. The measure is how many turns are left. Assumes nothing.
 use Prim.Native.Nat.{ℕ, _≤_, _-_}
 use lib.ListN.{length-replicate}
-use Rattle.cases.specs.Block.{Gathered}
+use Rattle.cases.specs.Block.{Gathered, blockBytes}
 use borrow.Author.Needs.{needs}
 use Rattle.cases.proofs.answer_all.Statement.{statement}
 use Rattle.cases.proofs.answer_all.Tie as tie
 
 abbrev Inv-loop : tie.InvT-loop
-Inv-loop input block₀ stand₀ counter₀ end block stand counter = (counter ≤ end) × Gathered block (stand .used)
+Inv-loop input block₀ stand₀ counter₀ end block stand counter = (counter ≤ end) × Gathered block (stand .used) blockBytes
 
 abbrev μ-loop : tie.MeasureT-loop
 μ-loop input block₀ stand₀ counter₀ end block stand counter = end - counter
