@@ -1,12 +1,13 @@
-"""Shared by generate.py, check, corpora, ../compare, ../bench and ../samples/make: kinds of events,
-numbers as bytes, table cases as bytes and lines, the build of the reference, and the reader of the
-hand-worked cases."""
+"""Shared by generate.py, check, corpora, streams, ../compare, ../bench and ../samples/make: kinds of
+events, numbers as bytes, table cases as bytes and lines, the build of the reference, where the built
+programs are, and the reader of the hand-worked cases."""
 
 import os
 import subprocess
 import sys
 
 HERE = os.path.dirname(os.path.abspath(__file__))
+RUNX = os.path.join(HERE, "runx")  # runs a built program on any machine
 FIELDS = ("place", "pred", "curr", "succ", "pending", "recovering",
           "status", "kind", "address", "node", "result")
 INSERT, DELETE, FIND, STEP, STOP, RESTART, BURST = range(7)
@@ -72,6 +73,18 @@ def build(folder):
 def reference(program, option, stdin):
     """What the reference prints for an input."""
     return subprocess.run([program, option], input=stdin, stdout=subprocess.PIPE, check=True).stdout
+
+
+def find(name, variable):
+    """The program that the variable names, or the newest executable of that name below target/."""
+    if os.environ.get(variable):
+        return os.path.abspath(os.environ[variable])
+    found = []
+    for folder, _, files in os.walk(os.path.join(os.path.dirname(HERE), "target")):
+        path = os.path.join(folder, name)
+        if name in files and os.access(path, os.X_OK):
+            found.append((os.path.getmtime(path), path))
+    return max(found)[1] if found else None
 
 
 # ---- The hand-worked cases ----

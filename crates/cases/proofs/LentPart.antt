@@ -1,5 +1,6 @@
--- The lent part of a table is as long as it says. Assumes nothing.
+-- The lent part of a table is as long as it says, and no longer than the array. Assumes nothing.
 use mathlib.Core.Path.{_≡_, sym}
+use Prim.Native.Nat.{_≤_}
 use native.Mathlib.Omega.{arith}
 use lib.ListN.{length, take}
 use lib.Seq.{length-take-le}
@@ -8,3 +9,6 @@ use Rattle.cases.specs.Lengths.{Whole}
 
 pub lent-length : (t : TakenWords) → Whole t → t .lent ≡ length (take (t .lent) (t .words))
 lent-length t whole = sym (length-take-le (t .lent) (t .words) (omega arith))
+
+pub lent-few : (t : TakenWords) → Whole t → length (take (t .lent) (t .words)) ≤ 64
+lent-few t whole = omega (arith, lent-length t whole)

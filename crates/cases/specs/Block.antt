@@ -1,9 +1,55 @@
--- The block that output is gathered in, and how much of it is used. Rests on lists alone.
+-- The block that lines are gathered in, how much of it is used, and how many bytes each part of a line takes at most. Rests on the room that the
+-- writers of text ask for.
 use mathlib.Core.Path.{_≡_}
 use mathlib.Core.List.{List}
-use Prim.Native.Nat.{ℕ, _≤_}
+use Prim.Native.Nat.{ℕ, _+_, _-_, _*_, _≤_}
 use lib.ListN.{length}
+use Rattle.text.specs.Put.{roomAsked}
 
-pub record Gathered (block : List ℕ) (used : ℕ) : Type 0 where
-  pub long : length block ≡ 65536
-  pub within : used ≤ 65536
+-- the length of the block; its first half, in which every line starts
+abbrev pub blockBytes : ℕ
+blockBytes = 65536
+
+abbrev pub halfBlock : ℕ
+halfBlock = 32768
+
+-- where the parts of a line end at most, so that every writer has the room that it asks for
+abbrev pub lastEnd : ℕ
+lastEnd = blockBytes - roomAsked
+
+-- of the block so many bytes are used, and no more than so many
+pub record Gathered (block : List ℕ) (used most : ℕ) : Type 0 where
+  pub long : length block ≡ blockBytes
+  pub within : used ≤ most
+
+-- ---- what the parts of a line take at most
+
+-- what the event came to; a number after a space
+abbrev pub outcomeBytes : ℕ
+outcomeBytes = 18
+
+abbrev pub numberBytes : ℕ
+numberBytes = 11
+
+-- what the event came to, and the count
+abbrev pub saidBytes : ℕ
+saidBytes = outcomeBytes + numberBytes
+
+-- the 64 words of a table
+abbrev pub tableBytes : ℕ
+tableBytes = 64 * numberBytes
+
+-- the lost or the kept part of a record: neither has more fields than eight
+abbrev pub partBytes : ℕ
+partBytes = 8 * numberBytes
+
+-- both parts; 64 records
+abbrev pub recordBytes : ℕ
+recordBytes = 2 * partBytes
+
+abbrev pub rowBytes : ℕ
+rowBytes = 64 * recordBytes
+
+-- the line, with its end
+abbrev pub lineBytes : ℕ
+lineBytes = saidBytes + 3 * tableBytes + rowBytes + 1

@@ -8,7 +8,8 @@ ghost use Prim.Native.Nat.{_≤_};
 ghost use lib.ListN.{take, drop};
 ghost use Rattle.table.specs.Events.{stateOf, leavesIn, event as eventIn};
 ghost use Rattle.words.specs.LentMemory.{lentMemory};
-ghost use Rattle.cases.specs.Block.{Gathered};
+ghost use Rattle.cases.specs.Block.{Gathered, blockBytes, halfBlock};
+ghost use Rattle.cases.specs.Lengths.{FewWords};
 use lent::Said;
 use reading::LentRecords;
 use reading::Taken;
@@ -55,9 +56,10 @@ fn answer(
     row: LentRecords,
     event: Event,
 ) -> usize
-    requires { ⌜ Gathered (now block) used ⌝ }
+    requires { ⌜ Gathered (now block) used halfBlock ⌝ }
+    requires { ⌜ FewWords (now addresses) (now links) (now deleters) ⌝ }
     requires { ⌜ row .lent ≤ 64 ⌝ }
-    ensures { λ r. ⌜ Gathered (now (block .exit)) r ⌝ }
+    ensures { λ r. ⌜ Gathered (now (block .exit)) r blockBytes ⌝ }
 {
     let lent = row.lent;
     let before = row.records;
@@ -77,8 +79,8 @@ struct Stand {
 
 // A block more than half full is written out; where that can't be, nothing more is read or written.
 fn emptied(block: &[u8], from: Stand, end: usize) -> Stand
-    requires { ⌜ Gathered (now block) (from .used) ⌝ }
-    ensures { λ r. ⌜ r .used ≤ 65536 ⌝ }
+    requires { ⌜ Gathered (now block) (from .used) blockBytes ⌝ }
+    ensures { λ r. ⌜ r .used ≤ halfBlock ⌝ }
 {
     if from.used <= 32768 {
         return from;
@@ -99,7 +101,7 @@ fn emptied(block: &[u8], from: Stand, end: usize) -> Stand
 
 // A bad case ends the output.
 fn bad_case(block: &[u8], used: usize) -> bool
-    requires { ⌜ Gathered (now block) used ⌝ }
+    requires { ⌜ Gathered (now block) used halfBlock ⌝ }
 {
     if writing::write_out(block, used) {
         return io::write_all(1, b"bad case\n");
@@ -118,8 +120,9 @@ fn work_on(
     deleters: &mut [u32],
     sizes: Sizes,
 ) -> Stand
-    requires { ⌜ Gathered (now block) used ⌝ }
-    ensures { λ r. ⌜ Gathered (now (block .exit)) (r .used) ⌝ }
+    requires { ⌜ Gathered (now block) used halfBlock ⌝ }
+    requires { ⌜ FewWords (now addresses) (now links) (now deleters) ⌝ }
+    ensures { λ r. ⌜ Gathered (now (block .exit)) (r .used) blockBytes ⌝ }
 {
     let taken_row = reading::take_row(input, before);
     let taken_event = reading::take_event(input, taken_row.last);
@@ -144,8 +147,8 @@ fn work_on(
 
 // Works on the case at a place.
 fn work_at(input: &[u8], block: &mut [u8], used: usize, at: usize) -> Stand
-    requires { ⌜ Gathered (now block) used ⌝ }
-    ensures { λ r. ⌜ Gathered (now (block .exit)) (r .used) ⌝ }
+    requires { ⌜ Gathered (now block) used halfBlock ⌝ }
+    ensures { λ r. ⌜ Gathered (now (block .exit)) (r .used) blockBytes ⌝ }
 {
     let taken_sizes = reading::take_sizes(input, at);
     let taken_addresses = reading::take_words(input, taken_sizes.last);
@@ -171,8 +174,8 @@ fn work_at(input: &[u8], block: &mut [u8], used: usize, at: usize) -> Stand
 
 // Works on the next case, if there is one.
 fn work(input: &[u8], block: &mut [u8], from: Stand) -> Stand
-    requires { ⌜ Gathered (now block) (from .used) ⌝ }
-    ensures { λ r. ⌜ Gathered (now (block .exit)) (r .used) ⌝ }
+    requires { ⌜ Gathered (now block) (from .used) blockBytes ⌝ }
+    ensures { λ r. ⌜ Gathered (now (block .exit)) (r .used) blockBytes ⌝ }
 {
     if input.len() <= from.at {
         return from;
@@ -189,24 +192,16 @@ fn cut_off() {
     streams::complain(b"cases: standard output takes no more\n");
 }
 
-fn main() {
-    let mut bytes = [0u8; 262144];
-    let n = io::read_full(0, &mut bytes);
-    if n < 262144 {
-        if streams::input_broken() {
-            streams::complain(b"cases: standard input can't be read\n");
-            return;
-        }
-    }
+// Answers every case of the input; a case takes at least a byte.
+fn answer_all(input: &[u8]) {
     let mut block = [0u8; 65536];
     let mut stand = Stand {
         used: 0,
         at: 0,
         good: true,
     };
-    // a case takes at least a byte
-    for _ in 0..n {
-        stand = work(&bytes[..n], &mut block, stand);
+    for _ in 0..input.len() {
+        stand = work(input, &mut block, stand);
     }
     if stand.good {
         if writing::write_out(&block, stand.used) {
@@ -214,4 +209,15 @@ fn main() {
         }
     }
     cut_off();
+}
+
+fn main() {
+    let mut bytes = [0u8; 262144];
+    let input = streams::read_in(&mut bytes);
+    if input.broken {
+        streams::complain(b"cases: standard input can't be read\n");
+        return;
+    }
+    let length = input.count;
+    answer_all(&bytes[..length]);
 }

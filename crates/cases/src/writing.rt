@@ -1,13 +1,18 @@
 // The line of a case: what the event came to, the count, the words of the three tables and the fields of every record, as they are afterwards.
-// Output is gathered in a block through the writers of text. A line is shorter than half a block, and a block more than half full is written out before
-// the next line.
-ghost use Prim.Native.Nat.{_≤_};
+// Output is gathered in a block through the writers of text. A line starts in the first half of the block and ends within it: specs/Block says how
+// many bytes each part of it takes at most. A block more than half full is written out before the next line.
+ghost use mathlib.Core.List.{[], _∷_};
+ghost use mathlib.Core.Path.{_≡_};
+ghost use Prim.Native.Nat.{_+_, _≤_};
 ghost use lib.ListN.{length};
-ghost use Rattle.cases.specs.Block.{Gathered};
+ghost use Rattle.cases.specs.Block.{Gathered, lastEnd, outcomeBytes, numberBytes, saidBytes, tableBytes, partBytes, rowBytes, lineBytes};
+ghost use Rattle.cases.specs.Lengths.{FewWords};
+ghost use Rattle.text.specs.Text.{decimal, newline, outcomeText, space};
 use crate::reading::LentRecords;
 use lent::Said;
 use record::Kept;
 use record::Lost;
+use record::Outcome;
 
 // Writes out what the block holds; whether standard output took it.
 pub(crate) fn write_out(block: &[u8], used: usize) -> bool
@@ -16,43 +21,49 @@ pub(crate) fn write_out(block: &[u8], used: usize) -> bool
     io::write_all(1, &block[..used])
 }
 
-// Where the next piece goes: at least 64 bytes are left there.
-fn room(block: &[u8], used: usize) -> usize
-    requires { ⌜ Gathered (now block) used ⌝ }
-    ensures { λ r. ⌜ r ≤ 65472 ⌝ }
+// What an event came to.
+fn gather_outcome(block: &mut [u8], used: usize, outcome: Outcome) -> usize
+    requires { ⌜ Gathered (now block) (used + outcomeBytes) lastEnd ⌝ }
+    ensures { λ r. ⌜ Gathered (now (block .exit)) r (used + outcomeBytes) ⌝ }
+    ensures { λ r. ⌜ r ≡ used + length (outcomeText outcome) ⌝ }
 {
-    if used <= 65472 {
-        return used;
-    }
-    write_out(block, used);
-    0
-}
-
-// What an event came to, and the count after it.
-fn gather_said(block: &mut [u8], used: usize, said: Said) -> usize
-    requires { ⌜ Gathered (now block) used ⌝ }
-    ensures { λ r. ⌜ Gathered (now (block .exit)) r ⌝ }
-{
-    let sizes = said.sizes;
-    let outcome = said.outcome;
-    let at = room(block, used);
-    let end = at + text::put_outcome(&mut block[at..], outcome);
-    gather_number(block, end, sizes.count)
+    used + text::put_outcome(&mut block[used..], outcome)
 }
 
 // A number after a space.
 fn gather_number(block: &mut [u8], used: usize, number: u32) -> usize
-    requires { ⌜ Gathered (now block) used ⌝ }
-    ensures { λ r. ⌜ Gathered (now (block .exit)) r ⌝ }
+    requires { ⌜ Gathered (now block) (used + numberBytes) lastEnd ⌝ }
+    ensures { λ r. ⌜ Gathered (now (block .exit)) r (used + numberBytes) ⌝ }
+    ensures { λ r. ⌜ r ≡ used + length (space ∷ decimal number) ⌝ }
 {
-    let at = room(block, used);
-    at + text::put_number(&mut block[at..], number)
+    used + text::put_number(&mut block[used..], number)
+}
+
+// The end of the line.
+fn gather_newline(block: &mut [u8], used: usize) -> usize
+    requires { ⌜ Gathered (now block) (used + 1) lastEnd ⌝ }
+    ensures { λ r. ⌜ Gathered (now (block .exit)) r (used + 1) ⌝ }
+    ensures { λ r. ⌜ r ≡ used + length (newline ∷ []) ⌝ }
+{
+    used + text::put_newline(&mut block[used..])
+}
+
+// What an event came to, and the count after it.
+fn gather_said(block: &mut [u8], used: usize, said: Said) -> usize
+    requires { ⌜ Gathered (now block) (used + saidBytes) lastEnd ⌝ }
+    ensures { λ r. ⌜ Gathered (now (block .exit)) r (used + saidBytes) ⌝ }
+{
+    let sizes = said.sizes;
+    let outcome = said.outcome;
+    let end = gather_outcome(block, used, outcome);
+    gather_number(block, end, sizes.count)
 }
 
 // The words of a table.
 fn gather_words(block: &mut [u8], used: usize, words: &[u32]) -> usize
-    requires { ⌜ Gathered (now block) used ⌝ }
-    ensures { λ r. ⌜ Gathered (now (block .exit)) r ⌝ }
+    requires { ⌜ Gathered (now block) (used + tableBytes) lastEnd ⌝ }
+    requires { ⌜ length (now words) ≤ 64 ⌝ }
+    ensures { λ r. ⌜ Gathered (now (block .exit)) r (used + tableBytes) ⌝ }
 {
     let mut end = used;
     for i in 0..words.len() {
@@ -67,8 +78,8 @@ fn digit(b: bool) -> u32 {
 }
 
 fn gather_lost(block: &mut [u8], used: usize, lost: Lost) -> usize
-    requires { ⌜ Gathered (now block) used ⌝ }
-    ensures { λ r. ⌜ Gathered (now (block .exit)) r ⌝ }
+    requires { ⌜ Gathered (now block) (used + partBytes) lastEnd ⌝ }
+    ensures { λ r. ⌜ Gathered (now (block .exit)) r (used + partBytes) ⌝ }
 {
     let mut end = gather_number(block, used, lost.place as u32);
     end = gather_number(block, end, lost.pred.0);
@@ -79,8 +90,8 @@ fn gather_lost(block: &mut [u8], used: usize, lost: Lost) -> usize
 }
 
 fn gather_kept(block: &mut [u8], used: usize, kept: Kept) -> usize
-    requires { ⌜ Gathered (now block) used ⌝ }
-    ensures { λ r. ⌜ Gathered (now (block .exit)) r ⌝ }
+    requires { ⌜ Gathered (now block) (used + partBytes) lastEnd ⌝ }
+    ensures { λ r. ⌜ Gathered (now (block .exit)) r (used + partBytes) ⌝ }
 {
     let mut end = gather_number(block, used, kept.status as u32);
     end = gather_number(block, end, kept.kind as u32);
@@ -91,9 +102,9 @@ fn gather_kept(block: &mut [u8], used: usize, kept: Kept) -> usize
 
 // The records that are lent.
 fn gather_records(block: &mut [u8], used: usize, row: LentRecords) -> usize
-    requires { ⌜ Gathered (now block) used ⌝ }
+    requires { ⌜ Gathered (now block) (used + rowBytes) lastEnd ⌝ }
     requires { ⌜ row .lent ≤ 64 ⌝ }
-    ensures { λ r. ⌜ Gathered (now (block .exit)) r ⌝ }
+    ensures { λ r. ⌜ Gathered (now (block .exit)) r (used + rowBytes) ⌝ }
 {
     let records = row.records;
     let mut end = used;
@@ -103,15 +114,6 @@ fn gather_records(block: &mut [u8], used: usize, row: LentRecords) -> usize
         end = gather_kept(block, end, r.kept);
     }
     end
-}
-
-// The end of the line.
-fn gather_newline(block: &mut [u8], used: usize) -> usize
-    requires { ⌜ Gathered (now block) used ⌝ }
-    ensures { λ r. ⌜ Gathered (now (block .exit)) r ⌝ }
-{
-    let at = room(block, used);
-    at + text::put_newline(&mut block[at..])
 }
 
 // The whole line.
@@ -124,9 +126,10 @@ pub(crate) fn gather_line(
     deleters: &[u32],
     row: LentRecords,
 ) -> usize
-    requires { ⌜ Gathered (now block) used ⌝ }
+    requires { ⌜ Gathered (now block) (used + lineBytes) lastEnd ⌝ }
+    requires { ⌜ FewWords (now addresses) (now links) (now deleters) ⌝ }
     requires { ⌜ row .lent ≤ 64 ⌝ }
-    ensures { λ r. ⌜ Gathered (now (block .exit)) r ⌝ }
+    ensures { λ r. ⌜ Gathered (now (block .exit)) r (used + lineBytes) ⌝ }
 {
     let mut end = gather_said(block, used, said);
     end = gather_words(block, end, addresses);

@@ -4,13 +4,12 @@ use printer::print_output;
 
 fn main() {
     let mut file = [0u8; 65537];
-    let length = io::read_full(0, &mut file);
-    if length < 65537 {
-        if streams::input_broken() {
-            streams::complain(b"conchladle: standard input can't be read\n");
-            return;
-        }
+    let input = streams::read_in(&mut file);
+    if input.broken {
+        streams::complain(b"conchladle: standard input can't be read\n");
+        return;
     }
+    let length = input.count;
     let mut addresses = [0u32; 4096];
     let mut links = [0u32; 4096];
     let mut deleters = [0u32; 4096];

@@ -1,5 +1,5 @@
 -- No more words of a table are lent than the array holds. Rests on LentPart.
-use Rattle.cases.proofs.LentPart.{lent-length}
+use Rattle.cases.proofs.LentPart.{lent-length, lent-few}
 use borrow.Author.Needs.{needs}
 use Rattle.cases.proofs.work_at.Statement.{statement}
 use Rattle.cases.proofs.work_at.Tie as tie
@@ -35,7 +35,15 @@ slice-aggregate-work-on-3 : tie.Need-slice-aggregate-work-on-3
 slice-aggregate-work-on-3 c = search (needs, lent-length)
 
 work-on-requires : tie.Need-work-on-requires
-work-on-requires c κs = search needs
+work-on-requires c κs =
+    let taken = c .before .before .before .before .before .before .before in (
+      search needs,
+      record {
+        few-addresses = lent-few _ (taken .before .before .take-words .ensures);
+        few-links = lent-few _ (taken .before .take-words2 .ensures);
+        few-deleters = lent-few _ (taken .take-words3 .ensures);
+      },
+    )
 
 same-length : tie.Need-same-length
 same-length c = search needs

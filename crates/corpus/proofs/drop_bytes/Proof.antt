@@ -1,21 +1,22 @@
--- The count of bytes left falls.
+-- The count of bytes left falls. Assumes nothing.
 use mathlib.Core.Path.{_≡_}
+use Prim.Native.Nat.{_<_}
 use lib.ListN.{length}
 use borrow.Author.Needs.{needs}
 use Rattle.corpus.proofs.drop_bytes.Statement.{statement}
 use Rattle.corpus.proofs.drop_bytes.Tie as tie
 
 abbrev Inv-loop : tie.InvT-loop
-Inv-loop space₀ count left₀ space left = length space ≡ length space₀
+Inv-loop space₀ count room left₀ space left = (room ≡ length space) × (0 < room)
 
 abbrev μ-loop : tie.MeasureT-loop
-μ-loop space₀ count left₀ space left = left
+μ-loop space₀ count room left₀ space left = left
 
 loop-holds : tie.Need-loop-holds Inv-loop μ-loop
 loop-holds c = search needs
 
-read-some-requires : tie.Need-read-some-requires Inv-loop μ-loop
-read-some-requires c κs = search needs
+read-bytes-requires : tie.Need-read-bytes-requires Inv-loop μ-loop
+read-bytes-requires c κs = search needs
 
 same-length : tie.Need-same-length Inv-loop μ-loop
 same-length c = search needs
@@ -32,6 +33,9 @@ loop-less c = search needs
 loop-again : tie.Need-loop-again Inv-loop μ-loop
 loop-again c = search needs
 
+read-bytes-requires-2 : tie.Need-read-bytes-requires-2 Inv-loop μ-loop
+read-bytes-requires-2 c κs = search needs
+
 same-length-2 : tie.Need-same-length-2 Inv-loop μ-loop
 same-length-2 c = search needs
 
@@ -45,11 +49,12 @@ drop-bytes-spec =
     Inv-loop
     μ-loop
     loop-holds
-    read-some-requires
+    read-bytes-requires
     same-length
     returns
     sub-left
     loop-less
     loop-again
+    read-bytes-requires-2
     same-length-2
     returns-2)

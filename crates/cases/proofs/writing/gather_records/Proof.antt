@@ -1,12 +1,13 @@
--- What is gathered ends within the block. The measure is how many records are left. Assumes nothing.
-use Prim.Native.Nat.{_≤_, _-_}
-use Rattle.cases.specs.Block.{Gathered}
+-- Each record takes no more bytes than its two parts do. The measure is how many records are left. Assumes nothing.
+use Prim.Native.Nat.{_+_, _*_, _-_, _≤_}
+use Rattle.cases.specs.Block.{Gathered, lastEnd, recordBytes, rowBytes}
 use borrow.Author.Needs.{needs}
 use Rattle.cases.proofs.writing.gather_records.Statement.{statement}
 use Rattle.cases.proofs.writing.gather_records.Tie as tie
 
 abbrev Inv-loop : tie.InvT-loop
-Inv-loop block₀ used records end₀ i₀ i-end block end i = Gathered block end × ((i-end ≤ 64) × (i ≤ i-end))
+Inv-loop block₀ used records end₀ i₀ i-end block end i =
+    Gathered block end (used + i * recordBytes) × ((used + rowBytes ≤ lastEnd) × ((i-end ≤ 64) × (i ≤ i-end)))
 
 abbrev μ-loop : tie.MeasureT-loop
 μ-loop block₀ used records end₀ i₀ i-end block end i = i-end - i
