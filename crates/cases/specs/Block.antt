@@ -35,21 +35,23 @@ numberBytes = 11
 abbrev pub saidBytes : ℕ
 saidBytes = outcomeBytes + numberBytes
 
--- the 64 words of a table
-abbrev pub tableBytes : ℕ
-tableBytes = 64 * numberBytes
+-- so many words; three tables of 64
+abbrev pub wordsBytes : ℕ → ℕ
+wordsBytes count = count * numberBytes
 
--- the lost or the kept part of a record: neither has more fields than eight
-abbrev pub partBytes : ℕ
-partBytes = 8 * numberBytes
+abbrev pub tablesBytes : ℕ
+tablesBytes = 3 * wordsBytes 64
 
--- both parts; 64 records
+-- the fields of a record; 64 records
+abbrev pub recordFields : ℕ
+recordFields = 11
+
 abbrev pub recordBytes : ℕ
-recordBytes = 2 * partBytes
+recordBytes = wordsBytes recordFields
 
 abbrev pub rowBytes : ℕ
 rowBytes = 64 * recordBytes
 
 -- the line, with its end
 abbrev pub lineBytes : ℕ
-lineBytes = saidBytes + 3 * tableBytes + rowBytes + 1
+lineBytes = saidBytes + tablesBytes + rowBytes + 1

@@ -5,14 +5,13 @@ ghost use mathlib.Core.List.{[], _∷_};
 ghost use mathlib.Core.Path.{_≡_};
 ghost use Prim.Native.Nat.{_+_, _≤_};
 ghost use lib.ListN.{length};
-ghost use Rattle.cases.specs.Block.{Gathered, lastEnd, outcomeBytes, numberBytes, saidBytes, tableBytes, partBytes, rowBytes, lineBytes};
+ghost use Rattle.cases.specs.Block.{Gathered, lastEnd, outcomeBytes, numberBytes, saidBytes, wordsBytes, tablesBytes, recordBytes, rowBytes, lineBytes};
 ghost use Rattle.cases.specs.Lengths.{FewWords};
 ghost use Rattle.text.specs.Text.{decimal, newline, outcomeText, space};
 use crate::reading::LentRecords;
 use lent::Said;
-use record::Kept;
-use record::Lost;
 use record::Outcome;
+use record::Record;
 
 // Writes out what the block holds; whether standard output took it.
 pub(crate) fn write_out(block: &[u8], used: usize) -> bool
@@ -59,11 +58,10 @@ fn gather_said(block: &mut [u8], used: usize, said: Said) -> usize
     gather_number(block, end, sizes.count)
 }
 
-// The words of a table.
+// Words, each as a number.
 fn gather_words(block: &mut [u8], used: usize, words: &[u32]) -> usize
-    requires { ⌜ Gathered (now block) (used + tableBytes) lastEnd ⌝ }
-    requires { ⌜ length (now words) ≤ 64 ⌝ }
-    ensures { λ r. ⌜ Gathered (now (block .exit)) r (used + tableBytes) ⌝ }
+    requires { ⌜ Gathered (now block) (used + wordsBytes (length (now words))) lastEnd ⌝ }
+    ensures { λ r. ⌜ Gathered (now (block .exit)) r (used + wordsBytes (length (now (words .entry)))) ⌝ }
 {
     let mut end = used;
     for i in 0..words.len() {
@@ -72,32 +70,49 @@ fn gather_words(block: &mut [u8], used: usize, words: &[u32]) -> usize
     end
 }
 
+// The words of the three tables.
+fn gather_tables(
+    block: &mut [u8],
+    used: usize,
+    addresses: &[u32],
+    links: &[u32],
+    deleters: &[u32],
+) -> usize
+    requires { ⌜ Gathered (now block) (used + tablesBytes) lastEnd ⌝ }
+    requires { ⌜ FewWords (now addresses) (now links) (now deleters) ⌝ }
+    ensures { λ r. ⌜ Gathered (now (block .exit)) r (used + tablesBytes) ⌝ }
+{
+    let mut end = gather_words(block, used, addresses);
+    end = gather_words(block, end, links);
+    gather_words(block, end, deleters)
+}
+
 // 1 for true.
 fn digit(b: bool) -> u32 {
     if b { 1 } else { 0 }
 }
 
-fn gather_lost(block: &mut [u8], used: usize, lost: Lost) -> usize
-    requires { ⌜ Gathered (now block) (used + partBytes) lastEnd ⌝ }
-    ensures { λ r. ⌜ Gathered (now (block .exit)) r (used + partBytes) ⌝ }
+// The fields of a record, those of its lost part first.
+fn gather_record(block: &mut [u8], used: usize, record: Record) -> usize
+    requires { ⌜ Gathered (now block) (used + recordBytes) lastEnd ⌝ }
+    ensures { λ r. ⌜ Gathered (now (block .exit)) r (used + recordBytes) ⌝ }
 {
-    let mut end = gather_number(block, used, lost.place as u32);
-    end = gather_number(block, end, lost.pred.0);
-    end = gather_number(block, end, lost.curr.0);
-    end = gather_number(block, end, lost.succ.0);
-    end = gather_number(block, end, lost.pending as u32);
-    gather_number(block, end, digit(lost.recovering))
-}
-
-fn gather_kept(block: &mut [u8], used: usize, kept: Kept) -> usize
-    requires { ⌜ Gathered (now block) (used + partBytes) lastEnd ⌝ }
-    ensures { λ r. ⌜ Gathered (now (block .exit)) r (used + partBytes) ⌝ }
-{
-    let mut end = gather_number(block, used, kept.status as u32);
-    end = gather_number(block, end, kept.kind as u32);
-    end = gather_number(block, end, kept.address.0);
-    end = gather_number(block, end, kept.node.0);
-    gather_number(block, end, kept.result as u32)
+    let lost = record.lost;
+    let kept = record.kept;
+    let fields = [
+        lost.place as u32,
+        lost.pred.0,
+        lost.curr.0,
+        lost.succ.0,
+        lost.pending as u32,
+        digit(lost.recovering),
+        kept.status as u32,
+        kept.kind as u32,
+        kept.address.0,
+        kept.node.0,
+        kept.result as u32,
+    ];
+    gather_words(block, used, &fields)
 }
 
 // The records that are lent.
@@ -109,9 +124,7 @@ fn gather_records(block: &mut [u8], used: usize, row: LentRecords) -> usize
     let records = row.records;
     let mut end = used;
     for i in 0..row.lent {
-        let r = records[i];
-        end = gather_lost(block, end, r.lost);
-        end = gather_kept(block, end, r.kept);
+        end = gather_record(block, end, records[i]);
     }
     end
 }
@@ -132,9 +145,7 @@ pub(crate) fn gather_line(
     ensures { λ r. ⌜ Gathered (now (block .exit)) r (used + lineBytes) ⌝ }
 {
     let mut end = gather_said(block, used, said);
-    end = gather_words(block, end, addresses);
-    end = gather_words(block, end, links);
-    end = gather_words(block, end, deleters);
+    end = gather_tables(block, end, addresses, links, deleters);
     end = gather_records(block, end, row);
     gather_newline(block, end)
 }

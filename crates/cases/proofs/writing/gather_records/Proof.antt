@@ -1,4 +1,4 @@
--- Each record takes no more bytes than its two parts do. The measure is how many records are left. Assumes nothing.
+-- Each record takes no more bytes than its fields do. The measure is how many records are left. Assumes nothing.
 use Prim.Native.Nat.{_+_, _*_, _-_, _≤_}
 use Rattle.cases.specs.Block.{Gathered, lastEnd, recordBytes, rowBytes}
 use borrow.Author.Needs.{needs}
@@ -15,17 +15,14 @@ abbrev μ-loop : tie.MeasureT-loop
 loop-holds : tie.Need-loop-holds Inv-loop μ-loop
 loop-holds c = search needs
 
-mul-r : tie.Need-mul-r Inv-loop μ-loop
-mul-r c = search needs
+mul-gather-record : tie.Need-mul-gather-record Inv-loop μ-loop
+mul-gather-record c = search needs
 
-array-copy-out-r : tie.Need-array-copy-out-r Inv-loop μ-loop
-array-copy-out-r c = search needs
+array-copy-out-gather-record : tie.Need-array-copy-out-gather-record Inv-loop μ-loop
+array-copy-out-gather-record c = search needs
 
-gather-lost-requires : tie.Need-gather-lost-requires Inv-loop μ-loop
-gather-lost-requires c κs = search needs
-
-gather-kept-requires : tie.Need-gather-kept-requires Inv-loop μ-loop
-gather-kept-requires c κs = search needs
+gather-record-requires : tie.Need-gather-record-requires Inv-loop μ-loop
+gather-record-requires c κs = search needs
 
 add-i : tie.Need-add-i Inv-loop μ-loop
 add-i c = search needs
@@ -49,10 +46,9 @@ gather-records-spec =
     Inv-loop
     μ-loop
     loop-holds
-    mul-r
-    array-copy-out-r
-    gather-lost-requires
-    gather-kept-requires
+    mul-gather-record
+    array-copy-out-gather-record
+    gather-record-requires
     add-i
     loop-less
     loop-again

@@ -1,15 +1,15 @@
 -- Each word takes no more bytes than a number does. The measure is how many words are left. Assumes nothing.
 use mathlib.Core.Path.{_≡_}
-use Prim.Native.Nat.{_+_, _*_, _-_, _≤_}
+use Prim.Native.Nat.{_+_, _-_, _≤_}
 use lib.ListN.{length}
-use Rattle.cases.specs.Block.{Gathered, lastEnd, numberBytes, tableBytes}
+use Rattle.cases.specs.Block.{Gathered, lastEnd, wordsBytes}
 use borrow.Author.Needs.{needs}
 use Rattle.cases.proofs.writing.gather_words.Statement.{statement}
 use Rattle.cases.proofs.writing.gather_words.Tie as tie
 
 abbrev Inv-loop : tie.InvT-loop
 Inv-loop block₀ used words end₀ i₀ i-end block end i =
-    Gathered block end (used + i * numberBytes) × ((used + tableBytes ≤ lastEnd) × ((i-end ≡ length words) × ((i-end ≤ 64) × (i ≤ i-end))))
+    Gathered block end (used + wordsBytes i) × ((used + wordsBytes i-end ≤ lastEnd) × ((i-end ≡ length words) × (i ≤ i-end)))
 
 abbrev μ-loop : tie.MeasureT-loop
 μ-loop block₀ used words end₀ i₀ i-end block end i = i-end - i
