@@ -25,6 +25,7 @@ use Rattle.table.proofs.Laws.Events.{refused-act-changes-nothing}
 use Rattle.table.proofs.Laws.Fitting.{limits}
 use Rattle.table.proofs.Laws.Meets.{event-by-slot}
 use Rattle.words.specs.LentMemory.{sized}
+use Rattle.words.specs.LentWords.{slotOf}
 use Rattle.list.specs.Acting.{left}
 use Rattle.list.specs.declared.Acted.{Acted}
 use Rattle.schedule.specs.declared.Cursor.{Cursor}
@@ -49,7 +50,7 @@ use Rattle.run.proofs.Phase as phase-type
 use Rattle.run.specs.Filling.{Next, piece, nothing, stop, fillFrom}
 use Rattle.run.specs.Pieces.{World, world, runOf, memoryOf, tableOf, inPhase, nextNumber, wentOn, toWalk}
 use Rattle.run.specs.Pieces.{eventNext, putAhead, addressNext, nextPiece, fills, refusing, startOf, begins}
-use Rattle.run.specs.PrivatePromises.{Ready, slotOf, isAccepted, stoppedText, lastText}
+use Rattle.run.specs.PrivatePromises.{Ready, isAccepted, stoppedText, lastText}
 use Rattle.run.proofs.Fills.{FillsTo, full, at-end}
 
 -- ---- the record of an event's process, in a row of 64

@@ -1,10 +1,9 @@
--- What the run's private functions promise of a block filled in part, of a record's place and of the texts they put; no public promise rests on
+-- What the run's private functions promise of a block filled in part, of what is stored and of the texts they put; no public promise rests on
 -- it. Rests on Pieces.
-use mathlib.Core.Bool.{Bool, true, false, cond}
+use mathlib.Core.Bool.{Bool, true, false}
 use mathlib.Core.List.{List, [], _++_}
 use mathlib.Core.Path.{_≡_}
 use Prim.Native.Nat.{ℕ, _-_, _<_}
-use lib.Dec.{ltb}
 use lib.ListN.{length}
 use Rattle.record.specs.declared.Outcome.{Outcome}
 use Rattle.record.specs.declared.Outcome.the-variants as outcome
@@ -42,10 +41,6 @@ Ready (Refusing n) room = room < 64
 Ready Acting room = room < 64
 Ready (Walking n) room = Unit
 Ready Over room = Unit
-
--- The place of a process's record in a row of 64, by the stated number of processes. A process that is not there is refused; it has the first place.
-unfoldable pub slotOf : (processes process : ℕ) → ℕ
-slotOf processes p = cond (ltb p processes) (cond (ltb p 64) p 0) 0
 
 -- an event that is not refused
 abbrev pub isAccepted : Outcome → Bool

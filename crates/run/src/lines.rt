@@ -5,7 +5,6 @@ use crate::Run;
 use list::act;
 use record::HEAD;
 use record::Outcome;
-use record::Process;
 use record::Record;
 use schedule::Cursor;
 use schedule::EventRead;
@@ -13,28 +12,15 @@ use schedule::read_event;
 use text::put_keys;
 use text::put_line;
 use words::Sizes;
+use words::slot;
 ghost use mathlib.Core.Path.{_≡_};
-ghost use Prim.Native.Nat.{_<_, _≤_, _-_};
+ghost use Prim.Native.Nat.{_≤_, _-_};
 ghost use lib.ListN.{length};
 ghost use Rattle.words.specs.LentMemory.{lentMemory};
 ghost use Rattle.text.specs.Put.{put, puts};
 ghost use Rattle.run.specs.declared.Phase.the-variants.{Acting};
 ghost use Rattle.run.specs.Pieces.{world, runOf, nextNumber};
-ghost use Rattle.run.specs.PrivatePromises.{LeftOff, Ready, slotOf, isAccepted, stoppedText, lastText};
-
-// The place of a process's record in the row, by the stated number of processes. A process that is not there has the first: it is refused, and
-// the record stays.
-fn slot(process: Process, processes: u32) -> usize
-    ensures { λ r. ⌜ r ≡ slotOf processes (process .0) ⌝ }
-    ensures { λ r. ⌜ r < 64 ⌝ }
-{
-    if process.0 < processes {
-        if process.0 < 64 {
-            return process.0 as usize;
-        }
-    }
-    0
-}
+ghost use Rattle.run.specs.PrivatePromises.{LeftOff, Ready, isAccepted, stoppedText, lastText};
 
 // Whether an event was accepted. A refused one changes nothing, so that nothing is stored for it.
 fn accepted(outcome: Outcome) -> bool

@@ -2,6 +2,7 @@
 use mathlib.Core.Bool.{Bool, true, false, cond}
 use mathlib.Core.List.{List}
 use Prim.Native.Nat.{ℕ}
+use lib.Dec.{ltb}
 use lib.ListN.{getD, set}
 use Rattle.record.specs.Record.{noNode}
 use Rattle.record.specs.declared.Node.{Node}
@@ -10,6 +11,10 @@ use Rattle.table.specs.Words.{Memory, linkAt, targetOf, isMarked, inUse, swaps,
 use Rattle.words.specs.declared.Compared.{Compared}
 use Rattle.words.specs.declared.LinkRead.{LinkRead}
 use Rattle.words.specs.declared.Swapped.{Swapped}
+
+-- The place of a process's record in a row of 64, by the stated number of processes. A process that is not there is refused; it has the first place.
+unfoldable pub slotOf : (processes process : ℕ) → ℕ
+slotOf processes p = cond (ltb p processes) (cond (ltb p 64) p 0) 0
 
 -- how a node stands to an address
 unfoldable pub comparedOf : List ℕ → Node → Address → Compared

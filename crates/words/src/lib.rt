@@ -1,13 +1,13 @@
-// The stated sizes and the words of the lent tables: whether sizes, tables and a record's fields fit, nodes in use, link words made and read, the order
+// The stated sizes and the words of the lent tables: whether sizes, tables and a record's fields fit, a record's place, nodes in use, link words made and read, the order
 // of nodes, the swap. A word past the end of a table reads as 0, and writing it changes nothing. Rests on the place table's words.
 ghost use mathlib.Core.Path.{_≡_};
-ghost use Prim.Native.Nat.{_%_};
+ghost use Prim.Native.Nat.{_%_, _<_};
 ghost use lib.ListN.{getD, set};
 ghost use Rattle.table.specs.Words.{Memory, links≔, linkWord, targetOf, isMarked, inUse, rank, rankOf};
 ghost use Rattle.table.specs.Steps.{inRange};
 ghost use Rattle.table.specs.Events.{sizesFit, tablesFit};
 ghost use Rattle.words.specs.LentMemory.{lentMemory, sized};
-ghost use Rattle.words.specs.LentWords.{comparedOf, linkMet, swapLeft, swapOf};
+ghost use Rattle.words.specs.LentWords.{slotOf, comparedOf, linkMet, swapLeft, swapOf};
 use record::Address;
 use record::FAIL;
 use record::FINDS;
@@ -15,6 +15,7 @@ use record::HEAD;
 use record::NO_ANSWER;
 use record::NO_NODE;
 use record::Node;
+use record::Process;
 use record::Record;
 use record::TAIL;
 
@@ -60,6 +61,20 @@ pub fn tables_fit(addresses: &[u32], links: &[u32], deleters: &[u32], sizes: Siz
         & ((nodes <= addresses.len()) & (nodes <= links.len()) & (nodes <= deleters.len()))
         & (2 <= sizes.count)
         & (sizes.count <= sizes.nodes)
+}
+
+// The place of a process's record in a row of 64, by the stated number of processes. A process that is not there has the first: it is refused, and
+// the record stays.
+pub fn slot(process: Process, processes: u32) -> usize
+    ensures { λ r. ⌜ r ≡ slotOf processes (process .0) ⌝ }
+    ensures { λ r. ⌜ r < 64 ⌝ }
+{
+    if process.0 < processes {
+        if process.0 < 64 {
+            return process.0 as usize;
+        }
+    }
+    0
 }
 
 // Whether a node is in use: in any memory that has these links and sizes.

@@ -1,6 +1,6 @@
 -- The walk along the chain goes onto the node that follows where that is not tail, is in use and sorts above; before tail it stops; and it never runs
 -- out of steps. Rests on Chain and InUse.
-use mathlib.Core.Path.{_≡_, refl, sym, _∙_, ap, subst}
+use mathlib.Core.Path.{_≡_, refl, sym, ap, subst}
 use mathlib.Core.Logic.{_≢_}
 use mathlib.Core.Bool.{Bool, true, false, cond}
 use mathlib.Core.List.{List, [], _∷_}
@@ -37,12 +37,13 @@ abbrev pub after : ℕ → Memory → Ahead → List Node
 after k m x = elim x [ onto y ↦ y ∷ walk k m y | tailAhead ↦ [] | notInUse ↦ [] | notAbove ↦ [] ]
 
 module _ (m : Memory) (n : Node) where
-  pub goes-onward : (y : Node) → Onward m n y → ahead m n ≡ onto y
+  pub goes-onward : Onward m n (follows m n) → ahead m n ≡ onto (follows m n)
   unfolding ahead
-  goes-onward y o =
-      let above = lt-ltb (rank (m .addresses) n) (rank (m .addresses) y) (o .above) in
-      ap (λ t. aheadOf t (eqb (t .0) (tailNode .0)) (inUse m t) (ltb (rank (m .addresses) n) (rank (m .addresses) t))) (o .target)
-      ∙ rw (ne-eqb (y .0) (tailNode .0) (λ q. o .not-tail (ap node q)), o .used, above)
+  goes-onward o = rw (
+    ne-eqb (follows m n .0) (tailNode .0) (λ q. o .not-tail (ap node q)),
+    o .used,
+    lt-ltb (rank (m .addresses) n) (rank (m .addresses) (follows m n)) (o .above),
+  ) refl
 
   -- it goes on where all three tests tell so, and to the node that follows
   all-tell : (y : Node) (tail used above : Bool) → let target = follows m n in

@@ -90,7 +90,7 @@ module _ {m : Memory} (i : Orderly m) where
   walk-lists zero n o t l = absurd (omega (arith, rank-low n o t))
   walk-lists (suc k) n o t l = elim (ℕ-discrete (followsIn m n) 1) [
     | yes q ↦ rw (walk-ended m (node n) (meets-tail m (node n) (ap node q)) (suc k)) (tail-next n o t q)
-    | no q ↦ rw (walk-onward m (node n) k (node (followsIn m n)) (goes-onward m (node n) (node (followsIn m n)) (record {
+    | no q ↦ rw (walk-onward m (node n) k (node (followsIn m n)) (goes-onward m (node n) (record {
       target = refl;
       not-tail = λ e. q (ap (λ n. n .0) e);
       used = i .used (followsIn m n) (further o t refl);

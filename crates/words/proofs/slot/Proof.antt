@@ -1,9 +1,9 @@
 -- By the tests on the process number.
 use Rattle.basics.proofs.Conds.{conds}
-use Rattle.run.specs.PrivatePromises.{slotOf}
+use Rattle.words.specs.LentWords.{slotOf}
 use borrow.Author.Needs.{needs}
-use Rattle.run.proofs.lines.slot.Statement.{statement}
-use Rattle.run.proofs.lines.slot.Tie as tie
+use Rattle.words.proofs.slot.Statement.{statement}
+use Rattle.words.proofs.slot.Tie as tie
 
 cast-result : tie.Need-cast-result
 cast-result c = search needs
