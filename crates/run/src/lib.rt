@@ -18,12 +18,11 @@ use fresh::fresh_tables;
 use keys::fill_keys;
 use lines::fill_lines;
 use record::Node;
-use record::Outcome;
 use record::Record;
 use schedule::Cursor;
 use schedule::HeaderRead;
 use schedule::read_header;
-use text::put_line;
+use text::put_refusal;
 use words::Sizes;
 
 // What a run does next: it says why its header was refused, acts on events, walks on along the chain from a node, or is over.
@@ -140,7 +139,7 @@ fn fill_refusal(block: &mut [u8], run: Run, number: u8) -> Filled
     if block.len() < 64 {
         return Filled { count: 0, run };
     }
-    let count = put_line(block, 0, Outcome::Refused(number));
+    let count = put_refusal(block, 0, number);
     let over = run.in_phase(Phase::Over);
     Filled { count, run: over }
 }

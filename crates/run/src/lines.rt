@@ -11,6 +11,7 @@ use schedule::EventRead;
 use schedule::read_event;
 use text::put_keys;
 use text::put_line;
+use text::put_refusal;
 use words::Sizes;
 use words::slot;
 ghost use mathlib.Core.Path.{_≡_};
@@ -49,7 +50,7 @@ fn put_stopped(part: &mut [u8], number: u32, refusal: u8) -> usize
     ensures { λ r. ⌜ put (now (part .exit)) r ≡ puts (stoppedText number refusal) (now (part .entry)) ⌝ }
     ensures { λ r. ⌜ r ≤ 34 ⌝ }
 {
-    let k = put_line(part, number, Outcome::Refused(refusal));
+    let k = put_refusal(part, number, refusal);
     let m = put_keys(&mut part[k..]);
     k + m
 }

@@ -241,6 +241,20 @@ pub fn put_line(part: &mut [u8], number: u32, outcome: Outcome) -> usize
     k + m
 }
 
+// The line of a refusal that no event had: of a header, or of what can't be read on. It does not go by `put_line`, which so has one caller, and the
+// compiler takes it into that caller's loop.
+pub fn put_refusal(part: &mut [u8], number: u32, refusal: u8) -> usize
+    ensures { λ r. ⌜ put (now (part .exit)) r ≡ putInto (line number (Refused refusal)) (now (part .entry)) ⌝ }
+    ensures { λ r. ⌜ r ≤ 30 ⌝ }
+{
+    if part.len() < 32 {
+        return 0;
+    }
+    let k = put_line_number(part, number);
+    let m = put_refused(&mut part[k..], refusal);
+    k + m
+}
+
 // What an event came to: as the line of an event ends, without the space before it and the end of the line.
 pub fn put_outcome(part: &mut [u8], outcome: Outcome) -> usize
     ensures { λ r. ⌜ put (now (part .exit)) r ≡ putInto (outcomeText outcome) (now (part .entry)) ⌝ }

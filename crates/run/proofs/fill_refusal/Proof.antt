@@ -13,8 +13,8 @@ use Rattle.run.proofs.fill_refusal.Tie as tie
 returns : tie.Need-returns
 returns c = (λ file m. from-start file _ _, (omega arith, rw (c .before .before .pre) (omega arith)))
 
-put-line-requires : tie.Need-put-line-requires
-put-line-requires c κs = search needs
+put-refusal-requires : tie.Need-put-refusal-requires
+put-refusal-requires c κs = search needs
 
 in-phase-requires : tie.Need-in-phase-requires
 in-phase-requires c κs = search needs
@@ -29,7 +29,7 @@ returns-2 c =
     let start = room .before .before in
     let block = start .args .block .now in
     let number = start .args .number in
-    let text = told .put-line in
+    let text = told .put-refusal in
     let some = line-some 0 (outcome.Refused number) in
     let g = grows-first (line 0 (outcome.Refused number)) block (text .last .0) (text .result) some (room .if1 .left) (text .kept .0) (omega arith)
     (text .ensures .0) in
@@ -42,4 +42,4 @@ returns-2 c =
 
 pub fill-refusal-spec : {M : Type 1} → statement M
 fill-refusal-spec =
-    tie.close (tie.spec returns put-line-requires in-phase-requires same-length returns-2)
+    tie.close (tie.spec returns put-refusal-requires in-phase-requires same-length returns-2)

@@ -4,8 +4,8 @@ use borrow.Author.Needs.{needs}
 use Rattle.run.proofs.lines.put_stopped.Statement.{statement}
 use Rattle.run.proofs.lines.put_stopped.Tie as tie
 
-put-line-requires : tie.Need-put-line-requires
-put-line-requires c κs = search needs
+put-refusal-requires : tie.Need-put-refusal-requires
+put-refusal-requires c κs = search needs
 
 sub-put-keys : tie.Need-sub-put-keys
 sub-put-keys c = search needs
@@ -32,7 +32,7 @@ pub put-stopped-spec : {M : Type 1} → statement M
 put-stopped-spec =
     tie.close
     (tie.spec
-    put-line-requires
+    put-refusal-requires
     sub-put-keys
     part-put-keys-start
     part-put-keys-end
