@@ -35,15 +35,18 @@ slice-aggregate-work-on-3 : tie.Need-slice-aggregate-work-on-3
 slice-aggregate-work-on-3 c = search (needs, lent-length)
 
 work-on-requires : tie.Need-work-on-requires
-work-on-requires c κs =
-    let taken = c .before .before .before .before .before .before .before in (
-      search needs,
+work-on-requires c κs = (
+  search needs,
+  (let deleters = c .before .before in
+      let links = deleters .before .before in
+      let addresses = links .before .before in
+      let taken = addresses .before in
       record {
         few-addresses = lent-few _ (taken .before .before .take-words .ensures);
         few-links = lent-few _ (taken .before .take-words2 .ensures);
         few-deleters = lent-few _ (taken .take-words3 .ensures);
-      },
-    )
+      }),
+)
 
 same-length : tie.Need-same-length
 same-length c = search needs

@@ -24,9 +24,10 @@ same-length c = search needs
 
 returns : tie.Need-returns
 returns c =
-    let put = c .before .before .put-outcome in
-    let args = c .before .before .before .before .before .args in
-    (search needs, put-whole _ (args .block .now) (put .last .0) (args .used) (put .result) (put .ensures .0) (search needs))
+    let told = c .before .before in
+    let put = told .put-outcome in
+    let start = told .before .before .before in
+    (search needs, put-whole _ (start .args .block .now) (put .last .0) (start .args .used) (put .result) (put .ensures .0) (search needs))
 
 pub gather-outcome-spec : {M : Type 1} → statement M
 gather-outcome-spec =
