@@ -20,7 +20,7 @@ pub(crate) fn pick(first: bool, one: u8, other: u8) -> u8
 }
 
 // The one record or the other.
-fn either(first: bool, one: Record, other: Record) -> Record
+fn chosen(first: bool, one: Record, other: Record) -> Record
     ensures { λ r. ⌜ r ≡ cond first one other ⌝ }
 {
     if first {
@@ -65,7 +65,7 @@ pub(crate) fn turn(fits: bool, sizes: Sizes, old: Record, after: Record) -> Acte
 pub(crate) fn swapped(swap: SwapMet, sizes: Sizes, old: Record, done: Record, lost: Record) -> Acted
     ensures { λ r. ⌜ r ≡ turnOf (swap .accepted) sizes old (cond (swap .wrote) done lost) ⌝ }
 {
-    turn(swap.accepted, sizes, old, either(swap.wrote, done, lost))
+    turn(swap.accepted, sizes, old, chosen(swap.wrote, done, lost))
 }
 
 // The outcome of a step that is accepted, or refused with 8.

@@ -1,5 +1,6 @@
 -- Actions, events and outcomes of 01: the number and the values of each case. Rests on the declared types alone.
 use Prim.Native.Nat.{ℕ, zero, suc}
+use mathlib.Core.Bool.{Bool, true, false}
 use mathlib.Core.Option.{Option, none, some}
 use Rattle.record.specs.declared.Process.{Process}
 use Rattle.record.specs.declared.Address.{Address}
@@ -41,3 +42,9 @@ outcomeOf (suc refusal) answer = Refused (suc refusal)
 -- accepted, and nothing handed out
 abbrev pub accepted : Outcome
 accepted = outcomeOf 0 none
+
+-- a refusal, with "nothing changed"; any other event is accepted, with an answer or without
+abbrev pub isAccepted : Outcome → Bool
+isAccepted (Refused n) = false
+isAccepted Accepted = true
+isAccepted (Answered n) = true

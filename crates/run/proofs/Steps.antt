@@ -11,6 +11,7 @@ use lib.ListN.{length, length-append, getD, set}
 use lib.Seq.{set-getD}
 use denote.Enum.Declared.{tagOf}
 use Rattle.record.specs.Record.{freshRecord, process}
+use Rattle.record.specs.Event.{isAccepted}
 use Rattle.record.specs.declared.Node.{Node}
 use Rattle.record.specs.declared.Address.{Address}
 use Rattle.record.specs.declared.Process.{Process}
@@ -50,7 +51,7 @@ use Rattle.run.proofs.Phase as phase-type
 use Rattle.run.specs.Filling.{Next, piece, nothing, stop, fillFrom}
 use Rattle.run.specs.Pieces.{World, world, runOf, memoryOf, tableOf, inPhase, nextNumber, wentOn, toWalk}
 use Rattle.run.specs.Pieces.{eventNext, putAhead, addressNext, nextPiece, fills, refusing, startOf, begins}
-use Rattle.run.specs.PrivatePromises.{Ready, isAccepted, stoppedText, lastText}
+use Rattle.run.specs.PrivatePromises.{Ready, stoppedText, lastText}
 use Rattle.run.proofs.Fills.{FillsTo, full, at-end}
 
 -- ---- the record of an event's process, in a row of 64

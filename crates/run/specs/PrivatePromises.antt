@@ -1,11 +1,8 @@
--- What the run's private functions promise of a block filled in part, of what is stored and of the texts they put; no public promise rests on
--- it. Rests on Pieces.
-use mathlib.Core.Bool.{Bool, true, false}
+-- What the run's private functions promise of a block filled in part and of the texts they put; no public promise rests on it. Rests on Pieces.
 use mathlib.Core.List.{List, [], _++_}
 use mathlib.Core.Path.{_≡_}
 use Prim.Native.Nat.{ℕ, _-_, _<_}
 use lib.ListN.{length}
-use Rattle.record.specs.declared.Outcome.{Outcome}
 use Rattle.record.specs.declared.Outcome.the-variants as outcome
 use Rattle.table.specs.Words.{Memory, addresses≔, links≔}
 use Rattle.schedule.specs.declared.EventRead.{EventRead}
@@ -41,12 +38,6 @@ Ready (Refusing n) room = room < 64
 Ready Acting room = room < 64
 Ready (Walking n) room = Unit
 Ready Over room = Unit
-
--- an event that is not refused
-abbrev pub isAccepted : Outcome → Bool
-isAccepted (outcome.Refused n) = false
-isAccepted outcome.Accepted = true
-isAccepted (outcome.Answered n) = true
 
 -- what follows the last event: the line of a refusal that stops the run, and the first word of the last line
 unfoldable pub stoppedText : (number refusal : ℕ) → List ℕ

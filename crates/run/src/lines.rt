@@ -17,11 +17,12 @@ use words::slot;
 ghost use mathlib.Core.Path.{_≡_};
 ghost use Prim.Native.Nat.{_≤_, _-_};
 ghost use lib.ListN.{length};
+ghost use Rattle.record.specs.Event.{isAccepted};
 ghost use Rattle.words.specs.LentMemory.{lentMemory};
 ghost use Rattle.text.specs.Put.{put, puts};
 ghost use Rattle.run.specs.declared.Phase.the-variants.{Acting};
 ghost use Rattle.run.specs.Pieces.{world, runOf, nextNumber};
-ghost use Rattle.run.specs.PrivatePromises.{LeftOff, Ready, isAccepted, stoppedText, lastText};
+ghost use Rattle.run.specs.PrivatePromises.{LeftOff, Ready, stoppedText, lastText};
 
 // Whether an event was accepted. A refused one changes nothing, so that nothing is stored for it.
 fn accepted(outcome: Outcome) -> bool

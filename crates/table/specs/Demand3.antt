@@ -25,11 +25,15 @@ use Rattle.table.specs.History.{Kind, insert, delete, find, Answer, Oper
 
 -- ---- quiet, well-formed states: nothing is asked of nodes off the chain or of records past the process count
 
+-- every process below the process count is idle
+abbrev pub AllIdle : State → Type 0
+AllIdle σ = (p : Process) → p .0 < σ .memory .processes → recordIn σ p .kept .status ≡ Idle
+
 pub record Quiet (σ : State) : Type 0 where
   -- the tables fit the sizes, and every process is idle
   pub tables : tablesFit (σ .memory) ≡ true
   pub row : σ .memory .processes ≤ length (σ .row)
-  pub idle : (p : Process) → p .0 < σ .memory .processes → recordIn σ p .kept .status ≡ Idle
+  pub idle : AllIdle σ
   -- the chain from head rises strictly, is made of nodes in use, and ends in tail
   pub rises : (n : Node) → OnChain (σ .memory) n → n ≢ tailNode
       → rank (σ .memory .addresses) n < rank (σ .memory .addresses) (follows (σ .memory) n)

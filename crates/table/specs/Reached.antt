@@ -4,14 +4,13 @@ use mathlib.Core.Path.{_≡_}
 use mathlib.Core.Logic.{_≢_, _↔_}
 use mathlib.Core.List.{List, [], _∷_, List·Memᴰ}
 use Prim.Native.Nat.{ℕ, _+_, _<_}
-use Rattle.record.specs.Record.{address, headNode, tailNode, Idle}
+use Rattle.record.specs.Record.{address, headNode, tailNode}
 use Rattle.record.specs.declared.Node.{Node}
-use Rattle.record.specs.declared.Process.{Process}
 use Rattle.record.specs.declared.Address.{Address}
 use Rattle.record.specs.declared.Event.{Event}
 use Rattle.table.specs.Words.{Memory, addressAt, rank, rankOf}
 use Rattle.table.specs.Chain.{OnChain, tailAhead, ahead, chain, lastOf, chainAddresses}
-use Rattle.table.specs.Events.{State, recordIn}
+use Rattle.table.specs.Events.{State}
 use Rattle.table.specs.Demand3.{Quiet, at, AddressesFit}
 
 -- the state at some moment of a run from a quiet state, in which the addresses requested are 32-bit numbers
@@ -53,10 +52,6 @@ pub record ChainListed (m : Memory) : Type 0 where
   pub addresses-rising : RisesAbove rankOf (rank (m .addresses) headNode) (chainAddresses m)
 
 -- ---- what follows
-
--- every process is idle
-abbrev pub AllIdle : State → Type 0
-AllIdle σ = (p : Process) → p .0 < σ .memory .processes → recordIn σ p .kept .status ≡ Idle
 
 -- the events from moment k on
 abbrev pub eventsFrom : (k : ℕ) → (ℕ → Event) → ℕ → Event

@@ -1,13 +1,13 @@
 -- Laws of events: what a refusal leaves, whose record changes, what becomes of the count and of addresses. Rests on Meets and Numbered.
 use mathlib.Core.Path.{_≡_, refl, _∙_, ap}
 use mathlib.Core.Logic.{_≢_}
-use mathlib.Core.Bool.{Bool, true, false, cond, _&&_, and-false}
+use mathlib.Core.Bool.{true, false, cond, _&&_, and-false}
 use Prim.Native.Nat.{ℕ, _+_}
 use native.Mathlib.Omega.{arith}
 use lib.Dec.{eqb}
 use lib.Seq.{getD-set-other}
 use Rattle.record.specs.Record.{freshRecord, Inserts}
-use Rattle.record.specs.Event.{kindOf}
+use Rattle.record.specs.Event.{kindOf, isAccepted}
 use Rattle.record.specs.declared.Node.{Node}
 use Rattle.record.specs.declared.Process.{Process}
 use Rattle.record.specs.declared.Record.{Record}
@@ -83,11 +83,6 @@ others-untouched σ e q other =
     refl
 
 -- ---- "Nodes are given out in rising number; a count says how many": only an insert moves it, by one
-
-abbrev pub isAccepted : Outcome → Bool
-isAccepted (Refused n) = false
-isAccepted Accepted = true
-isAccepted (Answered v) = false
 
 -- the count after an action of that outcome
 unfoldable pub countAfter : Action → Outcome → ℕ → ℕ

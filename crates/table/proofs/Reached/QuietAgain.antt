@@ -13,9 +13,9 @@ use Rattle.table.specs.Words.{Memory}
 use Rattle.table.specs.Chain.{Held}
 use Rattle.table.specs.Events.{State, Leaves, event}
 use Rattle.table.specs.History.{Answer, Operation, Set, History, Order}
-use Rattle.table.specs.Demand3.{Quiet, at, operation, history, AddressesFit, IsHeld}
+use Rattle.table.specs.Demand3.{AllIdle, Quiet, at, operation, history, AddressesFit, IsHeld}
 use Rattle.table.specs.Joined.{followedBy}
-use Rattle.table.specs.Reached.{Reached, AllIdle, eventsFrom}
+use Rattle.table.specs.Reached.{Reached, eventsFrom}
 use Rattle.basics.proofs.Tests.{none-or-some}
 use Rattle.table.proofs.Laws.Numbered.{on-number, plain-unmarked, unmarked-plain}
 use Rattle.table.proofs.Laws.Events.{accepted-not-refused}
