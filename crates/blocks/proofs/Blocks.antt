@@ -8,7 +8,7 @@ use lib.ListN.{length, length-append}
 use lib.Seq.{length-take-le}
 use Rattle.run.specs.Filling.{Stop}
 use Rattle.run.specs.Pieces.{World, nextPiece, fills}
-use Rattle.blocks.specs.ToCome.{toCome, filled, written}
+use Rattle.blocks.specs.ToCome.{toCome, filled, blocksWritten}
 use Rattle.blocks.proofs.Pieces.{Came, came, moves}
 use Rattle.blocks.proofs.Comes.{Numbered, run-gives}
 
@@ -48,8 +48,8 @@ no-bytes [] h = refl
 no-bytes (b ∷ l) h = absurd (omega arith)
 
 pub written-is : (turns : ℕ) (file : List ℕ) (blocks : ℕ → List ℕ) (w : World) → ((i : ℕ) → 64 ≤ length (blocks i)) → Numbered file w
-    → length (toCome file w) ≤ turns → written turns file blocks w ≡ toCome file w
-unfolding written
+    → length (toCome file w) ≤ turns → blocksWritten turns file blocks w ≡ toCome file w
+unfolding blocksWritten
 written-is zero file blocks w room numbered few = no-bytes (toCome file w) few
 written-is (suc turns) file blocks w room numbered few =
     let x = fills file w (blocks 0) in

@@ -16,7 +16,7 @@ use Rattle.record.specs.declared.Outcome.the-variants as outcome
 use Rattle.table.specs.Words.{addressAt}
 use Rattle.table.specs.Chain.{Ahead, onto, tailAhead, notInUse, notAbove, ahead, nodesAfter, chain, chainAddresses}
 use Rattle.table.specs.Events.{State, event, runs, outcomes}
-use Rattle.table.proofs.Laws.Ahead.{after, nodes-after}
+use Rattle.table.proofs.Laws.Ahead.{walkOn, nodes-after}
 use Rattle.schedule.specs.declared.EventRead.{EventRead}
 use Rattle.schedule.specs.declared.EventRead.the-variants as read
 use Rattle.schedule.specs.Cursors.{eventAt}
@@ -27,7 +27,7 @@ use Rattle.text.proofs.Lengths.{line-some}
 use Rattle.run.specs.declared.Phase.{Phase}
 use Rattle.run.specs.declared.Phase.the-variants.{Refusing, Acting, Walking, Over}
 use Rattle.run.specs.Output.{lines, stopLine, played}
-use Rattle.run.specs.Filling.{Next, piece, nothing}
+use Rattle.run.specs.Filling.{NextPiece, piece, nothing}
 use Rattle.run.specs.Pieces.{World, memoryOf, tableOf, inPhase, nextNumber, wentOn, toWalk, eventNext, putAhead, addressNext, nextPiece}
 use Rattle.run.specs.PrivatePromises.{stoppedText, lastText}
 use Rattle.run.proofs.Phase as phase-type
@@ -40,7 +40,7 @@ abbrev pub Numbered : (file : List ℕ) → World → Type 0
 Numbered file w = w .run .phase ≡ Acting → w .run .number + length (comes file (w .run .cursor)) ≤ 4294967295
 
 -- what the next piece tells of the whole that is to come
-abbrev Told : (file whole : List ℕ) → Next World → Type 0
+abbrev Told : (file whole : List ℕ) → NextPiece World → Type 0
 Told file whole (piece bytes t) = Numbered file t × (whole ≡ bytes ++ toCome file t) × (1 ≤ length bytes)
 Told file whole nothing = whole ≡ []
 
@@ -134,7 +134,7 @@ module _ (file : List ℕ) (w : World) where
   addresses nodes = map (λ n. address (addressAt (memoryOf w) n)) nodes
 
   -- by what lies ahead
-  walks-by : (x : Ahead) → Told file (text (addresses (after (memoryOf w .count) (memoryOf w) x))) (putAhead w x)
+  walks-by : (x : Ahead) → Told file (text (addresses (walkOn (memoryOf w .count) (memoryOf w) x))) (putAhead w x)
   unfolding toCome addressesText
   walks-by (onto n) =
       ((λ z. omega (arith, acts _ z)), append-assoc (space ∷ decimal (addressAt (memoryOf w) n)) _ (newline ∷ []), omega arith)

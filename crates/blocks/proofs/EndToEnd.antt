@@ -15,7 +15,7 @@ use Rattle.files.proofs.Files.{says-read}
 use Rattle.files.proofs.Accepted.{encoding-read}
 use Rattle.run.specs.Output.{played, output}
 use Rattle.run.specs.Pieces.{begins}
-use Rattle.blocks.specs.ToCome.{written}
+use Rattle.blocks.specs.ToCome.{blocksWritten}
 use Rattle.blocks.proofs.Begins.{output-file}
 use Rattle.blocks.proofs.Theorem.{blocks-are-output}
 
@@ -32,5 +32,5 @@ lines-of-file s h x holds = output-file s h x (says-read s (file h x) holds)
 -- the blocks that the code fills are these lines
 pub blocks-of-file : (s : List ℕ) (h : Header) (x : Reading) → Holds s h x → (m : Memory) → longEnough 4096 (lengths m) ≡ true
     → (blocks : ℕ → List ℕ) → ((i : ℕ) → 64 ≤ length (blocks i)) → (turns : ℕ) → length (output s) ≤ turns
-    → written turns s blocks (begins s m) ≡ played 0 (fresh (h .nodes) (h .processes)) (eventsOf (x .items)) (x .ended)
+    → blocksWritten turns s blocks (begins s m) ≡ played 0 (fresh (h .nodes) (h .processes)) (eventsOf (x .items)) (x .ended)
 blocks-of-file s h x holds m long blocks room turns enough = blocks-are-output s m long blocks room turns enough ∙ lines-of-file s h x holds

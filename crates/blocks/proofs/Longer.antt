@@ -16,8 +16,8 @@ use Rattle.table.specs.Words.{Memory, addressAt, inUse, rank, targetOf}
 use Rattle.table.specs.Chain.{follows, Ahead, onto, tailAhead, notInUse, notAbove, aheadOf, ahead, walk, chain, chainAddresses}
 use Rattle.table.specs.Events.{State, Leaves, event, runs, outcomes}
 use Rattle.table.proofs.Laws.Fitting.{Room, Beyond, longer}
-use Rattle.table.proofs.Laws.Ahead.{after, ahead-onto}
-use Rattle.table.proofs.Laws.Sizes.{Agree, ranks-agree, longer-agrees, Holds, holds-stays, room-stays, longerState, beyond-untouched}
+use Rattle.table.proofs.Laws.Ahead.{walkOn, ahead-onto}
+use Rattle.table.proofs.Laws.Sizes.{Agree, ranks-agree, longer-agrees, HoldsSizes, holds-stays, room-stays, longerState, beyond-untouched}
 use Rattle.text.specs.Text.{keysLine}
 use Rattle.run.specs.Output.{lines, stopLine, played}
 
@@ -28,7 +28,7 @@ pub record Sound (σ : State) : Type 0 where
   pub room : Room (σ .memory)
   pub row : σ .memory .processes ≤ length (σ .row)
 
-holds : {σ : State} → Sound σ → Holds σ
+holds : {σ : State} → Sound σ → HoldsSizes σ
 holds s = record { tables = s .room .long; row = s .row }
 
 sound-stays : (σ : State) (e : Event) → Sound σ → Sound (event σ e .after)
@@ -82,10 +82,10 @@ module _ (m m′ : Memory) (agree : Agree m m′) where
   unfolding walk
   walk-agrees zero n u = refl
   walk-agrees (suc steps) n u =
-      by (walk-agrees steps) (ahead m n) refl ∙ ap (λ x. addressesOf m′ (after steps m′ x)) (ahead-agrees n u)
+      by (walk-agrees steps) (ahead m n) refl ∙ ap (λ x. addressesOf m′ (walkOn steps m′ x)) (ahead-agrees n u)
     where
       by : ((y : Node) → inUse m y ≡ true → addressesOf m (walk steps m y) ≡ addressesOf m′ (walk steps m′ y))
-          → (x : Ahead) → ahead m n ≡ x → addressesOf m (after steps m x) ≡ addressesOf m′ (after steps m′ x)
+          → (x : Ahead) → ahead m n ≡ x → addressesOf m (walkOn steps m x) ≡ addressesOf m′ (walkOn steps m′ x)
       by again (onto y) e =
           let used = ahead-onto m n y e .used in
           λ i. address (agree .addresses y used i) ∷ again y used i

@@ -10,7 +10,7 @@ use lib.ListN.{length, take, drop, length-append}
 use lib.Seq.{take-at, length-take-le}
 use lib.Dec.{ltb}
 use Rattle.schedule.specs.Writing.{laid}
-use Rattle.run.specs.Filling.{Next, piece, nothing, Stop, stop, fillFrom}
+use Rattle.run.specs.Filling.{NextPiece, piece, nothing, Stop, stop, fillFrom}
 
 laid-length : (block : List ℕ) (at : ℕ) (bytes : List ℕ) → at ≤ length block → at + length bytes ≤ length (laid bytes block at)
 laid-length block at bytes h = simp (length-append, length-take-le at block h) (omega arith)
@@ -22,7 +22,7 @@ laid-start block at bytes h =
     ∙ take-at (take at block ++ bytes) (drop (length bytes) (drop at block)) (at + length bytes) (simp (length-append, length-take-le at block h))
 
 -- what the next piece does to what is to come
-pub record Gives (S : Type 0) (next : S → Next S) (P : S → Type 0) (rest : S → List ℕ) : Type 0 where
+pub record Gives (S : Type 0) (next : S → NextPiece S) (P : S → Type 0) (rest : S → List ℕ) : Type 0 where
   pub on-piece : (s : S) (bytes : List ℕ) (t : S) → P s → next s ≡ piece bytes t → P t × (rest s ≡ bytes ++ rest t) × (1 ≤ length bytes)
   pub on-nothing : (s : S) → P s → next s ≡ nothing → rest s ≡ []
 
@@ -33,9 +33,9 @@ pub record Came (S : Type 0) (P : S → Type 0) (rest : S → List ℕ) (x : Sto
   pub grown : at ≤ x .count
   pub still : P (x .state)
 
-module _ {S : Type 0} (next : S → Next S) (P : S → Type 0) (rest : S → List ℕ) (g : Gives S next P rest) where
+module _ {S : Type 0} (next : S → NextPiece S) (P : S → Type 0) (rest : S → List ℕ) (g : Gives S next P rest) where
   -- one turn, by what comes next
-  abbrev turn : (turns : ℕ) → S → (block : List ℕ) → (at : ℕ) → Bool → Next S → Stop S
+  abbrev turn : (turns : ℕ) → S → (block : List ℕ) → (at : ℕ) → Bool → NextPiece S → Stop S
   turn turns s block at small x =
       cond small (stop s block at)
       (elim x [
@@ -45,7 +45,7 @@ module _ {S : Type 0} (next : S → Next S) (P : S → Type 0) (rest : S → Lis
 
   by-next : (turns : ℕ) (s : S) (block : List ℕ) (at : ℕ) → at ≤ length block → P s
       → ((t : S) (b : List ℕ) (n : ℕ) → n ≤ length b → P t → Came S P rest (fillFrom next turns t b n) (take n b ++ rest t) n)
-      → (small : Bool) (x : Next S) → next s ≡ x → Came S P rest (turn turns s block at small x) (take at block ++ rest s) at
+      → (small : Bool) (x : NextPiece S) → next s ≡ x → Came S P rest (turn turns s block at small x) (take at block ++ rest s) at
   by-next turns s block at h p again true x e = record { whole-is = refl; within = h; grown = omega arith; still = p }
   by-next turns s block at h p again false (piece bytes t) e =
       let q = g .on-piece s bytes t p e in
@@ -65,7 +65,7 @@ module _ {S : Type 0} (next : S → Next S) (P : S → Type 0) (rest : S → Lis
   came (suc turns) s block at h p = by-next turns s block at h p (came turns) (ltb (length block - at) 64) (next s) refl
 
   with-room : (turns : ℕ) (s : S) (block : List ℕ) (at : ℕ) → at ≤ length block → P s
-      → (x : Next S) → next s ≡ x → (at < turn turns s block at false x .count) ⊎ (next s ≡ nothing)
+      → (x : NextPiece S) → next s ≡ x → (at < turn turns s block at false x .count) ⊎ (next s ≡ nothing)
   with-room turns s block at h p (piece bytes t) e =
       let q = g .on-piece s bytes t p e in
       inl (omega (arith, q .2, came turns t (laid bytes block at) (at + length bytes) (laid-length block at bytes h) (q .0) .grown))

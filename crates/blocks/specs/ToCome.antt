@@ -27,8 +27,8 @@ abbrev pub filled : Stop World → List ℕ
 filled x = take (x .count) (x .block)
 
 -- the bytes of so many blocks, one after the other
-unfoldable pub written : (turns : ℕ) → (file : List ℕ) → (blocks : ℕ → List ℕ) → World → List ℕ
-written zero file blocks w = []
-written (suc turns) file blocks w =
+unfoldable pub blocksWritten : (turns : ℕ) → (file : List ℕ) → (blocks : ℕ → List ℕ) → World → List ℕ
+blocksWritten zero file blocks w = []
+blocksWritten (suc turns) file blocks w =
     let x = fills file w (blocks 0) in
-    filled x ++ written turns file (λ i. blocks (suc i)) (x .state)
+    filled x ++ blocksWritten turns file (λ i. blocks (suc i)) (x .state)

@@ -25,33 +25,33 @@ pub record Gathered (block : List ℕ) (used most : ℕ) : Type 0 where
 -- ---- what the parts of a line take at most
 
 -- what the event came to; a number after a space
-abbrev pub outcomeBytes : ℕ
-outcomeBytes = 18
+abbrev pub outcomeRoom : ℕ
+outcomeRoom = 18
 
-abbrev pub numberBytes : ℕ
-numberBytes = 11
+abbrev pub numberRoom : ℕ
+numberRoom = 11
 
 -- what the event came to, and the count
-abbrev pub saidBytes : ℕ
-saidBytes = outcomeBytes + numberBytes
+abbrev pub saidRoom : ℕ
+saidRoom = outcomeRoom + numberRoom
 
 -- so many words; three tables of 64
-abbrev pub wordsBytes : ℕ → ℕ
-wordsBytes count = count * numberBytes
+abbrev pub wordsRoom : ℕ → ℕ
+wordsRoom count = count * numberRoom
 
-abbrev pub tablesBytes : ℕ
-tablesBytes = 3 * wordsBytes 64
+abbrev pub tablesRoom : ℕ
+tablesRoom = 3 * wordsRoom 64
 
 -- the fields of a record; 64 records
 abbrev pub recordFields : ℕ
 recordFields = 11
 
-abbrev pub recordBytes : ℕ
-recordBytes = wordsBytes recordFields
+abbrev pub recordRoom : ℕ
+recordRoom = wordsRoom recordFields
 
-abbrev pub rowBytes : ℕ
-rowBytes = 64 * recordBytes
+abbrev pub rowRoom : ℕ
+rowRoom = 64 * recordRoom
 
 -- the line, with its end
-abbrev pub lineBytes : ℕ
-lineBytes = saidBytes + tablesBytes + rowBytes + 1
+abbrev pub lineRoom : ℕ
+lineRoom = saidRoom + tablesRoom + rowRoom + 1

@@ -5,7 +5,7 @@ ghost use mathlib.Core.List.{[], _∷_};
 ghost use mathlib.Core.Path.{_≡_};
 ghost use Prim.Native.Nat.{_+_, _≤_};
 ghost use lib.ListN.{length};
-ghost use Rattle.cases.specs.Block.{Gathered, lastEnd, outcomeBytes, numberBytes, saidBytes, wordsBytes, tablesBytes, recordBytes, rowBytes, lineBytes};
+ghost use Rattle.cases.specs.Block.{Gathered, lastEnd, outcomeRoom, numberRoom, saidRoom, wordsRoom, tablesRoom, recordRoom, rowRoom, lineRoom};
 ghost use Rattle.cases.specs.Lengths.{FewWords};
 ghost use Rattle.text.specs.Text.{decimal, newline, outcomeText, space};
 use crate::reading::LentRecords;
@@ -22,8 +22,8 @@ pub(crate) fn write_out(block: &[u8], used: usize) -> bool
 
 // What an event came to.
 fn gather_outcome(block: &mut [u8], used: usize, outcome: Outcome) -> usize
-    requires { ⌜ Gathered (now block) (used + outcomeBytes) lastEnd ⌝ }
-    ensures { λ r. ⌜ Gathered (now (block .exit)) r (used + outcomeBytes) ⌝ }
+    requires { ⌜ Gathered (now block) (used + outcomeRoom) lastEnd ⌝ }
+    ensures { λ r. ⌜ Gathered (now (block .exit)) r (used + outcomeRoom) ⌝ }
     ensures { λ r. ⌜ r ≡ used + length (outcomeText outcome) ⌝ }
 {
     used + text::put_outcome(&mut block[used..], outcome)
@@ -31,8 +31,8 @@ fn gather_outcome(block: &mut [u8], used: usize, outcome: Outcome) -> usize
 
 // A number after a space.
 fn gather_number(block: &mut [u8], used: usize, number: u32) -> usize
-    requires { ⌜ Gathered (now block) (used + numberBytes) lastEnd ⌝ }
-    ensures { λ r. ⌜ Gathered (now (block .exit)) r (used + numberBytes) ⌝ }
+    requires { ⌜ Gathered (now block) (used + numberRoom) lastEnd ⌝ }
+    ensures { λ r. ⌜ Gathered (now (block .exit)) r (used + numberRoom) ⌝ }
     ensures { λ r. ⌜ r ≡ used + length (space ∷ decimal number) ⌝ }
 {
     used + text::put_number(&mut block[used..], number)
@@ -49,8 +49,8 @@ fn gather_newline(block: &mut [u8], used: usize) -> usize
 
 // What an event came to, and the count after it.
 fn gather_said(block: &mut [u8], used: usize, said: Said) -> usize
-    requires { ⌜ Gathered (now block) (used + saidBytes) lastEnd ⌝ }
-    ensures { λ r. ⌜ Gathered (now (block .exit)) r (used + saidBytes) ⌝ }
+    requires { ⌜ Gathered (now block) (used + saidRoom) lastEnd ⌝ }
+    ensures { λ r. ⌜ Gathered (now (block .exit)) r (used + saidRoom) ⌝ }
 {
     let sizes = said.sizes;
     let outcome = said.outcome;
@@ -60,8 +60,8 @@ fn gather_said(block: &mut [u8], used: usize, said: Said) -> usize
 
 // Words, each as a number.
 fn gather_words(block: &mut [u8], used: usize, words: &[u32]) -> usize
-    requires { ⌜ Gathered (now block) (used + wordsBytes (length (now words))) lastEnd ⌝ }
-    ensures { λ r. ⌜ Gathered (now (block .exit)) r (used + wordsBytes (length (now (words .entry)))) ⌝ }
+    requires { ⌜ Gathered (now block) (used + wordsRoom (length (now words))) lastEnd ⌝ }
+    ensures { λ r. ⌜ Gathered (now (block .exit)) r (used + wordsRoom (length (now (words .entry)))) ⌝ }
 {
     let mut end = used;
     for i in 0..words.len() {
@@ -78,9 +78,9 @@ fn gather_tables(
     links: &[u32],
     deleters: &[u32],
 ) -> usize
-    requires { ⌜ Gathered (now block) (used + tablesBytes) lastEnd ⌝ }
+    requires { ⌜ Gathered (now block) (used + tablesRoom) lastEnd ⌝ }
     requires { ⌜ FewWords (now addresses) (now links) (now deleters) ⌝ }
-    ensures { λ r. ⌜ Gathered (now (block .exit)) r (used + tablesBytes) ⌝ }
+    ensures { λ r. ⌜ Gathered (now (block .exit)) r (used + tablesRoom) ⌝ }
 {
     let mut end = gather_words(block, used, addresses);
     end = gather_words(block, end, links);
@@ -94,8 +94,8 @@ fn digit(b: bool) -> u32 {
 
 // The fields of a record, those of its lost part first.
 fn gather_record(block: &mut [u8], used: usize, record: Record) -> usize
-    requires { ⌜ Gathered (now block) (used + recordBytes) lastEnd ⌝ }
-    ensures { λ r. ⌜ Gathered (now (block .exit)) r (used + recordBytes) ⌝ }
+    requires { ⌜ Gathered (now block) (used + recordRoom) lastEnd ⌝ }
+    ensures { λ r. ⌜ Gathered (now (block .exit)) r (used + recordRoom) ⌝ }
 {
     let lost = record.lost;
     let kept = record.kept;
@@ -117,9 +117,9 @@ fn gather_record(block: &mut [u8], used: usize, record: Record) -> usize
 
 // The records that are lent.
 fn gather_records(block: &mut [u8], used: usize, row: LentRecords) -> usize
-    requires { ⌜ Gathered (now block) (used + rowBytes) lastEnd ⌝ }
+    requires { ⌜ Gathered (now block) (used + rowRoom) lastEnd ⌝ }
     requires { ⌜ row .lent ≤ 64 ⌝ }
-    ensures { λ r. ⌜ Gathered (now (block .exit)) r (used + rowBytes) ⌝ }
+    ensures { λ r. ⌜ Gathered (now (block .exit)) r (used + rowRoom) ⌝ }
 {
     let records = row.records;
     let mut end = used;
@@ -139,10 +139,10 @@ pub(crate) fn gather_line(
     deleters: &[u32],
     row: LentRecords,
 ) -> usize
-    requires { ⌜ Gathered (now block) (used + lineBytes) lastEnd ⌝ }
+    requires { ⌜ Gathered (now block) (used + lineRoom) lastEnd ⌝ }
     requires { ⌜ FewWords (now addresses) (now links) (now deleters) ⌝ }
     requires { ⌜ row .lent ≤ 64 ⌝ }
-    ensures { λ r. ⌜ Gathered (now (block .exit)) r (used + lineBytes) ⌝ }
+    ensures { λ r. ⌜ Gathered (now (block .exit)) r (used + lineRoom) ⌝ }
 {
     let mut end = gather_said(block, used, said);
     end = gather_tables(block, end, addresses, links, deleters);

@@ -62,13 +62,13 @@ keys-long : (m : Memory) → length (keysOn m) ≡ length (chain m)
 keys-long m = ap length (keys-on m) ∙ length-map (chain m) (λ n. addressAt m n)
 
 -- so many addresses of the chain are in the buffer, whose words were before; the walk stands on the node that has the last of them
-pub record Along (m : Memory) (before buffer : List ℕ) (from : Node) (read : ℕ) : Type 0 where
+pub record ReadAlong (m : Memory) (before buffer : List ℕ) (from : Node) (read : ℕ) : Type 0 where
   pub passed : read ≤ length (chain m)
   pub words : buffer ≡ take read (keysOn m) ++ drop read before
   pub stands : from ≡ lastOf headNode (take read (chain m))
   pub rest : nodesAfter m from ≡ drop read (chain m)
 
-along-start : (m : Memory) (before : List ℕ) → Along m before before headNode 0
+along-start : (m : Memory) (before : List ℕ) → ReadAlong m before before headNode 0
 unfolding chain
 along-start m before = record { passed = omega arith; words = refl; stands = refl; rest = refl }
 
@@ -79,9 +79,9 @@ one-word-more keys before read x xs room e =
     let is : getD keys read 0 ≡ x = simp add-zero at (sym (getD-drop read keys 0 0) ∙ ap (λ l. getD l 0 0) e) in
     rw (add-one, ← is) (simp zero-add at (paste-suc before 0 keys read 0 (omega arith) (below-length read keys x xs e)))
 
-module _ (m : Memory) (before buffer : List ℕ) (from : Node) (read : ℕ) (w : Along m before buffer from read) (x : Ahead)
+module _ (m : Memory) (before buffer : List ℕ) (from : Node) (read : ℕ) (w : ReadAlong m before buffer from read) (x : Ahead)
     (told : x ≡ aheadFrom m from) where
-  along-on : (next : Node) (a : Address) → x ≡ Next next a → read < length before → Along m before (set buffer read (a .0)) next (read + 1)
+  along-on : (next : Node) (a : Address) → x ≡ Next next a → read < length before → ReadAlong m before (set buffer read (a .0)) next (read + 1)
   along-on next a is room =
       let left = nodesAfter m next in
       let named : addressAt m next ≡ a .0 = ap (λ (a : Address). a .0) (sym (told-next m from x told next a is .1)) in
@@ -125,7 +125,7 @@ module _ (addresses links : List ℕ) (sizes : Sizes) (before : List ℕ) where
   pub record ReadSoFar (buffer : List ℕ) (from : Node) (read : ℕ) : Type 0 where
     pub room : read ≤ length before
     pub long : length buffer ≡ length before
-    pub along : (m : Memory) → Along (Lent m) before buffer from read
+    pub along : (m : Memory) → ReadAlong (Lent m) before buffer from read
 
   pub read-start : ReadSoFar before headNode 0
   read-start = record { room = omega arith; long = refl; along = λ m. along-start (Lent m) before }

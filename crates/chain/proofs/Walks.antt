@@ -15,7 +15,7 @@ use Rattle.record.specs.declared.Address.{Address}
 use Rattle.table.specs.Words.{Memory, addresses≔, links≔, addressAt, linkAt, targetOf, inUse, rank}
 use Rattle.table.specs.Chain as table
 use Rattle.table.specs.Chain.{onto, tailAhead, notInUse, notAbove, aheadOf, ahead, nodesAfter}
-use Rattle.table.proofs.Laws.Ahead.{after, nodes-after}
+use Rattle.table.proofs.Laws.Ahead.{walkOn, nodes-after}
 use Rattle.words.specs.declared.Sizes.{Sizes}
 use Rattle.words.specs.LentMemory.{sized}
 use Rattle.chain.specs.declared.Ahead.{Ahead}
@@ -92,7 +92,7 @@ module _ (m : Memory) where
 
     -- so the walk goes on, or ends
     pub goes-to : (next : Node) (a : Address) → x ≡ Next next a → nodesAfter m from ≡ next ∷ nodesAfter m next
-    goes-to next a e = nodes-after m from ∙ ap (after (m .count) m) (told-next next a e .0)
+    goes-to next a e = nodes-after m from ∙ ap (walkOn (m .count) m) (told-next next a e .0)
 
     pub ends-at : Stops x → nodesAfter m from ≡ []
-    ends-at stops = nodes-after m from ∙ told-stops (λ y. after (m .count) m y ≡ []) stops refl refl refl
+    ends-at stops = nodes-after m from ∙ told-stops (λ y. walkOn (m .count) m y ≡ []) stops refl refl refl

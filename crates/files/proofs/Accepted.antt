@@ -46,9 +46,9 @@ encoding-read s h items t =
     })
 
 -- a file is accepted exactly if it encodes a header within the limits and items that fit, and is not too long
-pub accepted : (s : List ℕ) (h : Header) (items : List Item) → Bytes s
+pub accepted-file : (s : List ℕ) (h : Header) (items : List Item) → Bytes s
     → (readFile s ≡ file h (reading items [] 0)) ↔ Encodes s h items
-accepted s h items bytes = (encodes, encoding-read s h items)
+accepted-file s h items bytes = (encodes, encoding-read s h items)
   where
     encodes : readFile s ≡ file h (reading items [] 0) → Encodes s h items
     encodes e =

@@ -14,7 +14,7 @@ use Rattle.files.specs.Refusals.{Faulty, at-nodes, at-processes, HeaderR
 use Rattle.files.specs.Stands.{Holds}
 use Rattle.files.specs.Looked.{Looked}
 use Rattle.files.proofs.Numbers.{bytes-after}
-use Rattle.files.proofs.Items.{joined}
+use Rattle.files.proofs.Items.{append-inside}
 use Rattle.files.proofs.ReadAll.{read-refused}
 use Rattle.files.proofs.Files.{reads-as, says-read, file-read}
 use Rattle.files.proofs.Accepted.{refused-file, header-refused-exactly}
@@ -25,7 +25,7 @@ longer : (s a rest t : List ℕ) → s ≡ a ++ rest → s ++ t ≡ a ++ (rest +
 longer s a rest t e = ap (λ (r : List ℕ). r ++ t) e ∙ append-assoc a rest t
 
 longer² : (s a b rest t : List ℕ) → s ≡ a ++ (b ++ rest) → s ++ t ≡ a ++ (b ++ (rest ++ t))
-longer² s a b rest t e = ap (λ (r : List ℕ). r ++ t) e ∙ joined a b rest t
+longer² s a b rest t e = ap (λ (r : List ℕ). r ++ t) e ∙ append-inside a b rest t
 
 -- bytes refused with 5 or 6 are refused so whatever follows them
 pub refused-whatever-follows : (s t : List ℕ) (n : ℕ) → Bytes s → n ≢ 4 → nextItem s ≡ refuses n → nextItem (s ++ t) ≡ refuses n

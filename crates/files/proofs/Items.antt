@@ -23,8 +23,8 @@ use Rattle.files.specs.Refusals.{Refused, ends-inside, kind-above-6, cou
 use Rattle.files.proofs.Numbers.{number-read, number-tells, after-number, missing-stops, faulty-stops}
 
 -- three parts in a row, and what stands after them
-pub joined : (a b c rest : List ℕ) → (a ++ (b ++ c)) ++ rest ≡ a ++ (b ++ (c ++ rest))
-joined a b c rest = simp append-assoc
+pub append-inside : (a b c rest : List ℕ) → (a ++ (b ++ c)) ++ rest ≡ a ++ (b ++ (c ++ rest))
+append-inside a b c rest = simp append-assoc
 
 -- ---- what is written is read
 
@@ -43,19 +43,19 @@ request-read : (kind p a : ℕ) (rest : List ℕ) → kind ≤ 2 → Fits32 p �
     → readItem ((numberBytes kind ++ (numberBytes p ++ numberBytes a)) ++ rest) ≡ got (single (eventOf (process p) (requestOfKind kind (address a)))) rest
 unfolding readRest _then_
 request-read kind p a rest l u v =
-    rw (joined, opening-read kind p (numberBytes a ++ rest) (omega arith) u, le-leb kind 2 l, number-read a rest v)
+    rw (append-inside, opening-read kind p (numberBytes a ++ rest) (omega arith) u, le-leb kind 2 l, number-read a rest v)
 
 move-read : (kind p : ℕ) (rest : List ℕ) → 2 < kind → kind ≤ 5 → Fits32 p
     → readItem ((numberBytes kind ++ (numberBytes p ++ [])) ++ rest) ≡ got (single (eventOf (process p) (moveOfKind kind))) rest
 unfolding readRest
 move-read kind p rest l m u =
-    rw (joined (numberBytes kind) (numberBytes p) [] rest, opening-read kind p rest (omega arith) u, lt-leb kind 2 l, le-leb kind 5 m)
+    rw (append-inside (numberBytes kind) (numberBytes p) [] rest, opening-read kind p rest (omega arith) u, lt-leb kind 2 l, le-leb kind 5 m)
 
 burst-read : (p count : ℕ) (rest : List ℕ) → Fits32 p → 1 ≤ count → count ≤ 255
     → readItem ((numberBytes 6 ++ (numberBytes p ++ numberBytes count)) ++ rest) ≡ got (burst (process p) count) rest
 unfolding readRest readBurst _then_
 burst-read p count rest u l m =
-    rw (joined, opening-read 6 p (numberBytes count ++ rest) (omega arith) u)
+    rw (append-inside, opening-read 6 p (numberBytes count ++ rest) (omega arith) u)
     (rw (number-read count rest (omega arith), le-leb 1 count l, le-leb count 255 m))
 
 -- an event written is read
@@ -106,7 +106,7 @@ ItemTells s = Tells (λ i left. (s ≡ itemBytes i ++ left) × ItemFits i) (λ n
 
 -- an item that stands at the front
 stands : (i : Item) (a b c left s : List ℕ) → s ≡ a ++ (b ++ (c ++ left)) → IsItem i (a ++ (b ++ c)) → (s ≡ itemBytes i ++ left) × ItemFits i
-stands i a b c left s e is = (e ∙ sym (joined a b c left) ∙ ap (λ (r : List ℕ). r ++ left) (sym (is .0)), is .1)
+stands i a b c left s e is = (e ∙ sym (append-inside a b c left) ∙ ap (λ (r : List ℕ). r ++ left) (sym (is .0)), is .1)
 
 -- a number that can't be read
 number-refused : (s t : List ℕ) (n : ℕ) → ((P : List ℕ → Type 0) → P t → AtNumber P s)

@@ -13,7 +13,7 @@ use Rattle.files.specs.Fits.{Bytes, Fits32}
 use Rattle.files.specs.Refusals.{Promise, Missing, Faulty, AtNumber, at-kind, at-process, at-last}
 use Rattle.files.specs.Refusals.{Refused, ends-inside, kind-above-6, count-outside, bad-number}
 use Rattle.files.specs.Looked.{Looked}
-use Rattle.files.proofs.Items.{joined, NextTells, next-tells, next-nothing, next-refused}
+use Rattle.files.proofs.Items.{append-inside, NextTells, next-tells, next-nothing, next-refused}
 
 -- ---- bytes cut
 
@@ -150,8 +150,8 @@ number-looked left n is (at-last kind p rest three u e f) =
     let x = fault-of rest f in
     let opening = numberBytes kind in
     looked-of left (opening ++ (numberBytes p ++ x .seen)) (x .unseen) n
-    (e ∙ ap (λ (r : List ℕ). opening ++ (numberBytes p ++ r)) (x .whole) ∙ sym (joined opening (numberBytes p) (x .seen) (x .unseen)))
-    (λ t. bad-number is (at-last kind p (x .seen ++ t) three u (joined opening (numberBytes p) (x .seen) t) (x .enough t)))
+    (e ∙ ap (λ (r : List ℕ). opening ++ (numberBytes p ++ r)) (x .whole) ∙ sym (append-inside opening (numberBytes p) (x .seen) (x .unseen)))
+    (λ t. bad-number is (at-last kind p (x .seen ++ t) three u (append-inside opening (numberBytes p) (x .seen) t) (x .enough t)))
     (process-next kind p (x .seen) three u (x .needed))
 
 refused-looked : (left : List ℕ) (n : ℕ) → n ≢ 4 → Refused left n → Looked left n
@@ -160,8 +160,8 @@ refused-looked left n not4 (kind-above-6 is kind rest l u e) =
     looked-of left (numberBytes kind) rest n e (λ t. kind-above-6 is kind t l u refl) (λ front c. at-kind (number-cut kind front c))
 refused-looked left n not4 (count-outside is p count rest u v out e) =
     looked-of left (numberBytes 6 ++ (numberBytes p ++ numberBytes count)) rest n
-    (e ∙ sym (joined (numberBytes 6) (numberBytes p) (numberBytes count) rest))
-    (λ t. count-outside is p count t u v out (joined (numberBytes 6) (numberBytes p) (numberBytes count) t))
+    (e ∙ sym (append-inside (numberBytes 6) (numberBytes p) (numberBytes count) rest))
+    (λ t. count-outside is p count t u v out (append-inside (numberBytes 6) (numberBytes p) (numberBytes count) t))
     (process-next 6 p (numberBytes count) (inr refl) u (λ front c. number-cut count front c))
 refused-looked left n not4 (bad-number is there) = number-looked left n is there
 

@@ -18,7 +18,7 @@ use Rattle.schedule.specs.declared.Written.the-variants.{Next, Refused}
 use Rattle.schedule.specs.Encoding.{headerBytes, eventBytes, itemBytes, itemsBytes, fileBytes}
 use Rattle.schedule.specs.Reading.{reading, file, readFile}
 use Rattle.schedule.specs.Cursors.{start}
-use Rattle.schedule.specs.Writing.{Wrote, wrote, answered, room, laid, put, writtenHeader, writtenEvent}
+use Rattle.schedule.specs.Writing.{Wrote, wrote, answered, room, laid, putAt, writtenHeader, writtenEvent}
 use Rattle.schedule.proofs.Unique.{Later, header-later, event-later}
 use Rattle.files.specs.Fits.{Each, HeaderFits, EventFits}
 use Rattle.files.specs.Stands.{Encodes}
@@ -31,8 +31,8 @@ use Rattle.files.proofs.Written.{limit, andThen, length-laid, laid-afte
 
 put-cases : (P : Wrote → Type 0) (bytes output : List ℕ) (at : ℕ)
     → (length bytes ≤ room output at → P (wrote (laid bytes output at) (at + length bytes) 0))
-    → (room output at < length bytes → P (wrote output at 9)) → P (put bytes output at)
-unfolding put
+    → (room output at < length bytes → P (wrote output at 9)) → P (putAt bytes output at)
+unfolding putAt
 put-cases P bytes output at = if-le P (length bytes) (room output at)
 
 event-cases : (P : Wrote → Type 0) (e : Event) (output : List ℕ) (at : ℕ)

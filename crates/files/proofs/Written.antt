@@ -16,11 +16,11 @@ use Rattle.basics.proofs.Tests.{if, if-le}
 use Rattle.schedule.specs.declared.Header.{Header}
 use Rattle.schedule.specs.Encoding.{Item, single, burst, headerBytes, eventBytes, itemBytes, itemsBytes, fileBytes, eventsOf}
 use Rattle.schedule.specs.Reading.{reading, file, readFile}
-use Rattle.schedule.specs.Writing.{Wrote, wrote, room, laid, put, writtenHeader, writtenEvent}
+use Rattle.schedule.specs.Writing.{Wrote, wrote, room, laid, putAt, writtenHeader, writtenEvent}
 use Rattle.files.specs.Fits.{Each, Bytes, HeaderFits, EventFits, ItemFits}
 use Rattle.files.specs.Stands.{Encodes}
 use Rattle.files.specs.Written.{writtenEvents, writtenFile, writtenBytes, singles, NoBurst}
-use Rattle.files.proofs.Accepted.{accepted, encoding-read}
+use Rattle.files.proofs.Accepted.{accepted-file, encoding-read}
 
 -- ---- bytes laid
 
@@ -29,8 +29,8 @@ abbrev pub limit : List ℕ → ℕ
 limit output = min (length output) 65536
 
 put-fits : (bytes output : List ℕ) (at : ℕ) → at + length bytes ≤ limit output
-    → put bytes output at ≡ wrote (laid bytes output at) (at + length bytes) 0
-unfolding put
+    → putAt bytes output at ≡ wrote (laid bytes output at) (at + length bytes) 0
+unfolding putAt
 put-fits bytes output at l = rw (le-leb (length bytes) (room output at) (omega arith))
 
 pub length-laid : (bytes output : List ℕ) (at : ℕ) → at + length bytes ≤ length output → length (laid bytes output at) ≡ length output
@@ -58,7 +58,7 @@ Lays bytes output at w = w ≡ wrote (laid bytes output at) (at + length bytes) 
 
 then-written : (first rest output : List ℕ) (at : ℕ) (events : List Event)
     → ((output : List ℕ) (at : ℕ) → at + length rest ≤ limit output → Lays rest output at (writtenEvents events output at))
-    → at + length (first ++ rest) ≤ limit output → Lays (first ++ rest) output at (andThen events (put first output at))
+    → at + length (first ++ rest) ≤ limit output → Lays (first ++ rest) output at (andThen events (putAt first output at))
 then-written first rest output at events written l =
     let long : length (first ++ rest) ≡ length first + length rest = length-append first rest in
     let same : length (laid first output at) ≡ length output = length-laid first output at (omega arith) in
@@ -89,8 +89,8 @@ file-written h events output fits l =
 
 then-room : (first rest output : List ℕ) (at : ℕ) (events : List Event)
     → ((output : List ℕ) (at : ℕ) → at ≤ limit output → writtenEvents events output at .refusal ≡ 0 → at + length rest ≤ limit output)
-    → at ≤ limit output → andThen events (put first output at) .refusal ≡ 0 → at + length (first ++ rest) ≤ limit output
-unfolding put
+    → at ≤ limit output → andThen events (putAt first output at) .refusal ≡ 0 → at + length (first ++ rest) ≤ limit output
+unfolding putAt
 then-room first rest output at events had-room l =
     if-le (λ (w : Wrote). andThen events w .refusal ≡ 0 → at + length (first ++ rest) ≤ limit output) (length first) (room output at)
     (λ fits done.
@@ -162,7 +162,7 @@ pub written-back : (s : List ℕ) (h : Header) (items : List Item) (output : Lis
     → readFile s ≡ file h (reading items [] 0) → Each NoBurst items → length s ≤ length output
     → writtenFile h (eventsOf items) output ≡ wrote (s ++ drop (length s) output) (length s) 0
 written-back s h items output bytes e none l =
-    let t : Encodes s h items = accepted s h items bytes .0 e in
+    let t : Encodes s h items = accepted-file s h items bytes .0 e in
     let is : fileBytes h (singles (eventsOf items)) ≡ s = ap (fileBytes h) (singles-of-events items none) ∙ sym (t .bytes) in
     file-written h (eventsOf items) output (t .header-fits) (omega (arith, ap length is, t .short))
     ∙ ap (λ (r : List ℕ). wrote (r ++ drop (length r) output) (length r) 0) is

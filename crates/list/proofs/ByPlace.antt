@@ -21,7 +21,7 @@ use Rattle.list.specs.declared.access.DeleterRead.{DeleterRead}
 use Rattle.list.specs.declared.access.SwapMet.{SwapMet}
 use Rattle.list.specs.Acting.{left}
 use Rattle.list.specs.Accesses.{linkRead, deleterRead, writeLeft, linkWritten, accessLeft, linkSwap, deleterSwap}
-use Rattle.list.specs.Rows.{StandsAt, turnOf, answered}
+use Rattle.list.specs.Rows.{StandsAt, turnOf, actedAs}
 use Rattle.list.proofs.Turns.{read-link, read-deleter, write-node, own-record, hand-out, write-link, swap-link, swap-deleter}
 
 -- a place and an answer chosen by a test, as one choice of records
@@ -171,15 +171,15 @@ module _ (m : Memory) (sizes : Sizes) (p : Process) (r : Record) (a : Acted) (x 
 
     pub row-13 : StandsAt 13 r → look ≡ cond looks 15 19 → go ≡ cond inserts 0 look → place ≡ cond known 19 go
         → tell ≡ cond (inserts || looks) (r .lost .pending) Fail → answer ≡ cond known (r .kept .result) tell → x ≡ (r ▸ place with answer)
-        → a ≡ answered sizes x Accepted → left m a ≡ step (sized sizes m) p r
+        → a ≡ actedAs sizes x Accepted → left m a ≡ step (sized sizes m) p r
     unfolding row placeOf
     row-13 at l g q t w made says =
         rw (says, made, w, t, q, g, l, resumes r known inserts looks) (own-record m sizes p r 13 at _ refl)
 
-  pub row-18 : StandsAt 18 r → x ≡ (r ▸ result≔ (r .lost .pending) ▸ to 19) → a ≡ answered sizes x Accepted → left m a ≡ step (sized sizes m) p r
+  pub row-18 : StandsAt 18 r → x ≡ (r ▸ result≔ (r .lost .pending) ▸ to 19) → a ≡ actedAs sizes x Accepted → left m a ≡ step (sized sizes m) p r
   unfolding row placeOf
   row-18 at made says = rw (says, made) (own-record m sizes p r 18 at _ refl)
 
-  pub row-19 : StandsAt 19 r → x ≡ (r ▸ status≔ Idle) → a ≡ answered sizes x (Answered (r .lost .pending)) → left m a ≡ step (sized sizes m) p r
+  pub row-19 : StandsAt 19 r → x ≡ (r ▸ status≔ Idle) → a ≡ actedAs sizes x (Answered (r .lost .pending)) → left m a ≡ step (sized sizes m) p r
   unfolding row placeOf
   row-19 at made says = rw (says, made) (hand-out m sizes p r 19 at _ _ refl)

@@ -22,7 +22,7 @@ use Rattle.list.specs.declared.Acted.{Acted}
 use Rattle.list.specs.declared.search.Goal.{Goal}
 use Rattle.list.specs.Acting.{left}
 use Rattle.list.specs.Accesses.{linkRead}
-use Rattle.list.specs.Rows.{StandsAt, turnOf, answered, EndsAt}
+use Rattle.list.specs.Rows.{StandsAt, turnOf, actedAs, EndsAt}
 use Rattle.list.proofs.Turns.{left-unless, read-link-own, read-link}
 
 -- ---- row 1
@@ -135,12 +135,12 @@ module _ (m : Memory) (sizes : Sizes) (p : Process) (r : Record) (read : LinkRea
       place ≡ cond fits next-place (r .lost .place) →
       answer ≡ cond fits next-answer (r .lost .pending) →
       x ≡ (cond (fits && not (read .mark) && order .below) (r ▸ succ≔ onto ▸ pred≔ (r .lost .curr) ▸ curr≔ onto) (r ▸ succ≔ onto) ▸ place with answer) →
-      a ≡ answered sizes x (cond fits Accepted (Refused 8)) →
+      a ≡ actedAs sizes x (cond fits Accepted (Refused 8)) →
       left m a ≡ step (sized sizes m) p r
   scanned low-place next-place next-answer onto place answer x a l n w t q v made says =
       rw (says, made, v, q, t, w, n, l)
       (ap (left m)
-      (ap (λ (s : Record). answered sizes s (cond fits Accepted (Refused 8)))
+      (ap (λ (s : Record). actedAs sizes s (cond fits Accepted (Refused 8)))
       (scan-left r fits (read .mark) (order .below) (read .target) _ _)
       ∙ left-unless fits sizes r _)
       ∙ scans)
@@ -170,7 +170,7 @@ module _ (m : Memory) (sizes : Sizes) (p : Process) (r : Record) (read : LinkRea
       place ≡ cond (read .accepted) next-place (r .lost .place) →
       answer ≡ cond (read .accepted) next-answer (r .lost .pending) →
       x ≡ (r ▸ curr≔ onto ▸ place with answer) →
-      a ≡ answered sizes x (cond (read .accepted) Accepted (Refused 8)) →
+      a ≡ actedAs sizes x (cond (read .accepted) Accepted (Refused 8)) →
       left m a ≡ step (sized sizes m) p r
   unfolding row placeOf comparedOf
   walked same-place next-place next-answer onto place answer x a s n w t q v made says =
@@ -178,6 +178,6 @@ module _ (m : Memory) (sizes : Sizes) (p : Process) (r : Record) (read : LinkRea
       let same : Bool = equal (m .addresses) (read .target) (r .kept .address) in
       rw (says, made, v, q, t, w, n, s, o)
       (ap (left m)
-      (ap (λ (y : Record). answered sizes y (cond (read .accepted) Accepted (Refused 8))) (walk-left r (read .accepted) (read .target) _ _)
+      (ap (λ (y : Record). actedAs sizes y (cond (read .accepted) Accepted (Refused 8))) (walk-left r (read .accepted) (read .target) _ _)
       ∙ left-unless (read .accepted) sizes r _)
       ∙ read-link m sizes p r 11 at curr _ refl read is _ (walk-chooses r (read .target) low same))

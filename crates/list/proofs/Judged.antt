@@ -23,7 +23,7 @@ use Rattle.words.specs.LentMemory.{lentMemory, sized}
 use Rattle.words.specs.declared.Sizes.{Sizes}
 use Rattle.list.specs.declared.Acted.{Acted}
 use Rattle.list.specs.Acting.{left}
-use Rattle.list.specs.Rows.{answered, oneMore, Within}
+use Rattle.list.specs.Rows.{actedAs, oneMore, Within}
 
 -- what tables that fit hold
 module _ (m : Memory) (sizes : Sizes) (fits : tablesFit (sized sizes m) ≡ true) where
@@ -49,7 +49,7 @@ module _ (addresses links deleters : List ℕ) (sizes : Sizes) (p : Process) (r 
   abbrev m : Memory
   m = lentMemory addresses links deleters sizes
 
-  pub unfit : not fits ≡ true → (a : Acted) → a ≡ answered sizes r (Refused 7) → left m a ≡ act m p r x
+  pub unfit : not fits ≡ true → (a : Acted) → a ≡ actedAs sizes r (Refused 7) → left m a ≡ act m p r x
   unfolding act refusalIn
   unfit h a made = rw (made, ← is, not-true fits h) refl
 
@@ -57,12 +57,12 @@ module _ (addresses links deleters : List ℕ) (sizes : Sizes) (p : Process) (r 
     fit : fits ≡ true
     fit = not-false fits told
 
-    pub not-there : sizes .processes ≤ p .0 → (a : Acted) → a ≡ answered sizes r (Refused 1) → left m a ≡ act m p r x
+    pub not-there : sizes .processes ≤ p .0 → (a : Acted) → a ≡ actedAs sizes r (Refused 1) → left m a ≡ act m p r x
     unfolding act refusalIn
     not-there past a made = rw (made, ← is, fit, le-ltb (p .0) (sizes .processes) past) refl
 
     module _ (there : p .0 < sizes .processes) (needed : ℕ) (needs : needed ≡ statusNeeded x) where
-      pub not-ready : (r .kept .status ≡ needed → ⊥) → (a : Acted) → a ≡ answered sizes r (Refused 2) → left m a ≡ act m p r x
+      pub not-ready : (r .kept .status ≡ needed → ⊥) → (a : Acted) → a ≡ actedAs sizes r (Refused 2) → left m a ≡ act m p r x
       unfolding act refusalIn
       not-ready other a made =
           rw (made, ← is, fit, lt-ltb (p .0) (sizes .processes) there, ← needs, ne-eqb (r .kept .status) needed other) refl
@@ -90,7 +90,7 @@ module _ (addresses links deleters : List ℕ) (sizes : Sizes) (p : Process) (r 
     unfolding does
     steps is done = rw is (done lent)
 
-  module _ (b : Acted) (q : Record) (made : b ≡ answered sizes q Accepted) where
+  module _ (b : Acted) (q : Record) (made : b ≡ actedAs sizes q Accepted) where
     pub deletes : (a : Address) → x ≡ Delete a → q ≡ requested 0 Deletes a noNode r → left (lentMemory addresses links deleters (b .sizes)) b ≡ does lent p r x
     unfolding does
     deletes a is h = rw (is, made, h)
@@ -121,7 +121,7 @@ module _ (addresses links deleters : List ℕ) (sizes : Sizes) (p : Process) (r 
   abbrev mem : Memory
   mem = lentMemory addresses links deleters sizes
 
-  pub full : sizes .count ≡ sizes .nodes → b ≡ answered sizes r (Refused 3) → left mem b ≡ does mem p r (Insert a)
+  pub full : sizes .count ≡ sizes .nodes → b ≡ actedAs sizes r (Refused 3) → left mem b ≡ does mem p r (Insert a)
   unfolding does
   full h is = rw (is, eq-eqb (sizes .count) (sizes .nodes) h)
 
@@ -129,7 +129,7 @@ module _ (addresses links deleters : List ℕ) (sizes : Sizes) (p : Process) (r 
       ((m : Memory) → nextNode m ≡ node (sizes .count) →
       addresses≔ addresses′ (links≔ links′ (deleters≔ deleters′ (count≔ (m .count + 1) m))) ≡
       givenOut a (addresses≔ addresses (links≔ links (deleters≔ deleters m)))) →
-      (sizes .count ≡ sizes .nodes → ⊥) → z ≡ oneMore sizes → b ≡ answered z q Accepted → q ≡ requested 0 Inserts a (node (sizes .count)) r →
+      (sizes .count ≡ sizes .nodes → ⊥) → z ≡ oneMore sizes → b ≡ actedAs z q Accepted → q ≡ requested 0 Inserts a (node (sizes .count)) r →
       left (lentMemory addresses′ links′ deleters′ (b .sizes)) b ≡ does mem p r (Insert a)
   unfolding does
   takes q z addresses′ links′ deleters′ gives some more is made =

@@ -13,18 +13,18 @@ use Rattle.words.specs.LentMemory.{sized}
 use Rattle.words.specs.declared.Sizes.{Sizes}
 use Rattle.list.specs.declared.Acted.{Acted}
 use Rattle.list.specs.Acting.{left}
-use Rattle.list.specs.Rows.{answered}
+use Rattle.list.specs.Rows.{actedAs}
 
 module _ (m : Memory) (sizes : Sizes) (p : Process) (r : Record) where
-  pub out-of-range : inRange r ≡ false → left m (answered sizes r (Refused 8)) ≡ step (sized sizes m) p r
+  pub out-of-range : inRange r ≡ false → left m (actedAs sizes r (Refused 8)) ≡ step (sized sizes m) p r
   unfolding step turnIn
   out-of-range h = rw h
 
-  pub off-the-table : (a : Acted) → a ≡ answered sizes r (Refused 8) → 19 < r .lost .place → left m a ≡ step (sized sizes m) p r
+  pub off-the-table : (a : Acted) → a ≡ actedAs sizes r (Refused 8) → 19 < r .lost .place → left m a ≡ step (sized sizes m) p r
   off-the-table a is off = rw is (out-of-range (unfold inRange in rw (lt-leb (r .lost .place) 19 off)))
 
   -- what a test of the ranges told
-  pub refused-8 : (ranged : Bool) → ranged ≡ inRange r → (a : Acted) → a ≡ answered sizes r (Refused 8) → ranged ≡ false →
+  pub refused-8 : (ranged : Bool) → ranged ≡ inRange r → (a : Acted) → a ≡ actedAs sizes r (Refused 8) → ranged ≡ false →
       left m a ≡ step (sized sizes m) p r
   refused-8 ranged e a is h = rw is (out-of-range (sym e ∙ h))
 

@@ -25,7 +25,7 @@ use Rattle.list.specs.declared.access.SwapMet.{SwapMet}
 use Rattle.list.specs.Acting.{left}
 use Rattle.list.specs.Accesses.{linkRead, deleterRead, writeLeft, linkWritten, accessLeft, swapMade, noSwap}
 use Rattle.list.specs.Accesses.{linkSwap, deleterSwap}
-use Rattle.list.specs.Rows.{StandsAt, turnOf, answered}
+use Rattle.list.specs.Rows.{StandsAt, turnOf, actedAs}
 
 -- the tests of a row that uses three nodes, two, one, without the trues
 fits-three : (a b d : Bool) → ((a && (b && (d && true))) && true && true) ≡ (a && b && d)
@@ -45,7 +45,7 @@ fits-one false = refl
 
 -- a record that was left as it was where the step does not fit
 pub left-unless : (fits : Bool) (sizes : Sizes) (r after : Record) →
-    answered sizes (cond fits after r) (cond fits Accepted (Refused 8)) ≡ turnOf fits sizes r after
+    actedAs sizes (cond fits after r) (cond fits Accepted (Refused 8)) ≡ turnOf fits sizes r after
 unfolding turnOf
 left-unless true sizes r after = refl
 left-unless false sizes r after = refl
@@ -142,12 +142,12 @@ module _ (m₀ : Memory) (sizes : Sizes) (p : Process) (r : Record) where
         ∙ rw (step-at (writeNode f after) e, fits-one (usable (inUse m) r f))
 
     pub own-record : (after : Record) → row (m₀ .addresses) (placeOf n) r ≡ ownRecord after →
-        left m₀ (answered sizes after Accepted) ≡ step m p r
+        left m₀ (actedAs sizes after Accepted) ≡ step m p r
     unfolding wordMet written
     own-record after e = rw (step-at (ownRecord after) e)
 
     pub hand-out : (answer : ℕ) (after : Record) → row (m₀ .addresses) (placeOf n) r ≡ handOut answer after →
-        left m₀ (answered sizes after (Answered answer)) ≡ step m p r
+        left m₀ (actedAs sizes after (Answered answer)) ≡ step m p r
     unfolding wordMet written
     hand-out answer after e = rw (step-at (handOut answer after) e)
 

@@ -33,12 +33,12 @@ pub record StandsAt (n : ℕ) (r : Record) : Type 0 where
 abbrev pub oneMore : Sizes → Sizes
 oneMore sizes = record { nodes = sizes .nodes; processes = sizes .processes; count = sizes .count + 1 }
 
-abbrev pub answered : Sizes → Record → Outcome → Acted
-answered sizes r outcome = record { advanced = r; sizes = sizes; outcome = outcome }
+abbrev pub actedAs : Sizes → Record → Outcome → Acted
+actedAs sizes r outcome = record { advanced = r; sizes = sizes; outcome = outcome }
 
 -- the record after an accepted step, or the old one with refusal 8
 unfoldable pub turnOf : Bool → Sizes → Record → Record → Acted
-turnOf accepted sizes r after = cond accepted (answered sizes after Accepted) (answered sizes r (Refused 8))
+turnOf accepted sizes r after = cond accepted (actedAs sizes after Accepted) (actedAs sizes r (Refused 8))
 
 -- where the search of a record ends, as a place and a pending answer: "End of search.", of any record of which its tests tell this
 unfoldable pub EndsAt : (recovering at-own inserts same : Bool) (pending : ℕ) → Goal → Type 0

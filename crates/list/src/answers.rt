@@ -2,7 +2,7 @@
 ghost use mathlib.Core.Path.{_≡_};
 ghost use mathlib.Core.Bool.{cond};
 ghost use Rattle.record.specs.declared.Outcome.the-variants.{Refused, Accepted};
-ghost use Rattle.list.specs.Rows.{answered, turnOf};
+ghost use Rattle.list.specs.Rows.{actedAs, turnOf};
 use crate::Acted;
 use crate::access::SwapMet;
 use record::Outcome;
@@ -31,7 +31,7 @@ fn chosen(first: bool, one: Record, other: Record) -> Record
 
 // Nothing changed, and the refusal's number.
 pub(crate) fn refused(sizes: Sizes, old: Record, number: u8) -> Acted
-    ensures { λ r. ⌜ r ≡ answered sizes old (Refused number) ⌝ }
+    ensures { λ r. ⌜ r ≡ actedAs sizes old (Refused number) ⌝ }
 {
     Acted {
         advanced: old,
@@ -42,7 +42,7 @@ pub(crate) fn refused(sizes: Sizes, old: Record, number: u8) -> Acted
 
 // The record advanced, and nothing handed out.
 pub(crate) fn accepted(sizes: Sizes, after: Record) -> Acted
-    ensures { λ r. ⌜ r ≡ answered sizes after Accepted ⌝ }
+    ensures { λ r. ⌜ r ≡ actedAs sizes after Accepted ⌝ }
 {
     Acted {
         advanced: after,
@@ -80,7 +80,7 @@ fn outcome(fits: bool) -> Outcome
 
 // The same of a record that was left as it was where the step does not fit: the rows of a walk choose field by field, and copy no record to choose.
 pub(crate) fn judged(fits: bool, sizes: Sizes, left: Record) -> Acted
-    ensures { λ r. ⌜ r ≡ answered sizes left (cond fits Accepted (Refused 8)) ⌝ }
+    ensures { λ r. ⌜ r ≡ actedAs sizes left (cond fits Accepted (Refused 8)) ⌝ }
 {
     Acted {
         advanced: left,

@@ -217,7 +217,7 @@ module _ (bytes groups : List ℕ) (count next : ℕ) where
 -- ---- what the loop keeps
 
 -- so many groups gathered, and what was read with what is left
-pub record Gathered (count : ℕ) (groups : List ℕ) (Whole : Type 0) : Type 0 where
+pub record GatheredSoFar (count : ℕ) (groups : List ℕ) (Whole : Type 0) : Type 0 where
   pub few : count ≤ 5
   pub five : length groups ≡ 5
   pub seven-bits : Groups groups
@@ -240,7 +240,7 @@ still-groups (g ∷ groups) zero b h all (suc k) = all (suc k)
 still-groups (g ∷ groups) (suc i) b h all zero = all zero
 still-groups (g ∷ groups) (suc i) b h all (suc k) = still-groups groups i b h (λ k. all (suc k)) k
 
-pub none-gathered : {Whole : Type 0} → Whole → Gathered 0 (0 ∷ 0 ∷ 0 ∷ 0 ∷ 0 ∷ []) Whole
+pub none-gathered : {Whole : Type 0} → Whole → GatheredSoFar 0 (0 ∷ 0 ∷ 0 ∷ 0 ∷ 0 ∷ []) Whole
 none-gathered whole =
     record {
       few = omega arith;
@@ -251,8 +251,8 @@ none-gathered whole =
     }
 
 one-gathered : {Whole More : Type 0} (count : ℕ) (groups : List ℕ) (b : ℕ) → count < 5 → b < 128
-    → Gathered count groups Whole → More
-    → Gathered (count + 1) (set groups count b) More
+    → GatheredSoFar count groups Whole → More
+    → GatheredSoFar (count + 1) (set groups count b) More
 one-gathered count groups b h small g whole =
     record {
       few = omega arith;
@@ -263,9 +263,9 @@ one-gathered count groups b h small g whole =
     }
 
 -- a turn that goes on: a byte of 128 or more, and its group put
-pub group-more : (bytes groups : List ℕ) (count next : ℕ) (number : Read ℕ) → Gathered count groups (left bytes groups count next ≡ number)
+pub group-more : (bytes groups : List ℕ) (count next : ℕ) (number : Read ℕ) → GatheredSoFar count groups (left bytes groups count next ≡ number)
     → count < 5 → next < length bytes → 128 ≤ getD bytes next 0 → Fits w8 (getD bytes next 0)
-    → Gathered (count + 1) (set groups count (getD bytes next 0 - 128))
+    → GatheredSoFar (count + 1) (set groups count (getD bytes next 0 - 128))
     (left bytes (set groups count (getD bytes next 0 - 128)) (count + 1) (next + 1) ≡ number)
 group-more bytes groups count next number g few there more fits =
     one-gathered count groups (getD bytes next 0 - 128) few (omega (arith, fits .fits)) g

@@ -12,7 +12,7 @@ use Rattle.schedule.specs.Writing.{laid}
 use Rattle.text.specs.Put.{put, puts, putInto}
 use Rattle.basics.proofs.Rest.{rest-is, rest-back, length-rest}
 use Rattle.text.proofs.Puts.{roomy}
-use Rattle.run.specs.Filling.{Next, piece, nothing, Stop, stop, fillFrom}
+use Rattle.run.specs.Filling.{NextPiece, piece, nothing, Stop, stop, fillFrom}
 use Rattle.run.specs.PrivatePromises.{Reaches}
 
 -- ---- what a writer leaves in the rest of a block
@@ -65,7 +65,7 @@ grows-first bytes block block′ count some room same few e =
 -- ---- a turn of filling
 
 -- filling on from here comes to the whole
-abbrev pub FillsTo : {S : Type 0} → (S → Next S) → S → (block : List ℕ) → (at : ℕ) → (whole : Stop S) → Type 0
+abbrev pub FillsTo : {S : Type 0} → (S → NextPiece S) → S → (block : List ℕ) → (at : ℕ) → (whole : Stop S) → Type 0
 FillsTo {S} next s block at whole = Reaches (Stop S) (λ turns. fillFrom next turns s block at) whole (length block - at)
 
 -- which may be known by another name
@@ -77,7 +77,7 @@ same-either : {A : Type 0} (b : Bool) (x : A) → x ≡ cond b x x
 same-either true x = refl
 same-either false x = refl
 
-module _ {S : Type 0} (next : S → Next S) (s : S) (block : List ℕ) (at : ℕ) where
+module _ {S : Type 0} (next : S → NextPiece S) (s : S) (block : List ℕ) (at : ℕ) where
   -- too little room
   pub full : (turns : ℕ) → length block - at < 64 → stop s block at ≡ fillFrom next turns s block at
   unfolding fillFrom

@@ -48,7 +48,7 @@ use Rattle.run.specs.declared.Phase.{Phase}
 use Rattle.run.specs.declared.Phase.the-variants.{Refusing, Acting, Walking, Over}
 use Rattle.run.specs.declared.Run.{Run}
 use Rattle.run.proofs.Phase as phase-type
-use Rattle.run.specs.Filling.{Next, piece, nothing, stop, fillFrom}
+use Rattle.run.specs.Filling.{NextPiece, piece, nothing, stop, fillFrom}
 use Rattle.run.specs.Pieces.{World, world, runOf, memoryOf, tableOf, inPhase, nextNumber, wentOn, toWalk}
 use Rattle.run.specs.Pieces.{eventNext, putAhead, addressNext, nextPiece, fills, refusing, startOf, begins}
 use Rattle.run.specs.PrivatePromises.{Ready, stoppedText, lastText}

@@ -25,7 +25,7 @@ use Rattle.text.specs.Text.{line, decimal, keysWord, space, newline}
 use Rattle.run.specs.declared.Phase.{Phase}
 use Rattle.run.specs.declared.Phase.the-variants.{Refusing, Acting, Walking, Over}
 use Rattle.run.specs.declared.Run.{Run}
-use Rattle.run.specs.Filling.{Next, piece, nothing, Stop, fillFrom}
+use Rattle.run.specs.Filling.{NextPiece, piece, nothing, Stop, fillFrom}
 
 -- everything that a run reads and changes: a memory, and the run by value
 pub record World : Type 0 where
@@ -66,7 +66,7 @@ abbrev pub toWalk : World → World
 toWalk w = inPhase (Walking headNode) w
 
 -- "An event is acted on only where it was read; otherwise the run stops there."
-unfoldable pub eventNext : (file : List ℕ) → World → Next World
+unfoldable pub eventNext : (file : List ℕ) → World → NextPiece World
 eventNext file w =
     elim (eventAt file (w .run .cursor)) [
       | read.Got e next ↦
@@ -77,18 +77,18 @@ eventNext file w =
     ]
 
 -- "the address of every node on the chain between head and tail, rising, decimal, each after a space"
-abbrev pub putAhead : World → Ahead → Next World
+abbrev pub putAhead : World → Ahead → NextPiece World
 putAhead w (onto n) = piece (space ∷ decimal (addressAt (memoryOf w) n)) (inPhase (Walking n) w)
 putAhead w tailAhead = piece (newline ∷ []) (inPhase Over w)
 putAhead w notInUse = piece (newline ∷ []) (inPhase Over w)
 putAhead w notAbove = piece (newline ∷ []) (inPhase Over w)
 
 -- by what lies ahead of a node
-unfoldable pub addressNext : World → Node → Next World
+unfoldable pub addressNext : World → Node → NextPiece World
 addressNext w n = putAhead w (ahead (memoryOf w) n)
 
 -- "A bad header prints only `0 refused N`."
-unfoldable pub nextPiece : (file : List ℕ) → World → Next World
+unfoldable pub nextPiece : (file : List ℕ) → World → NextPiece World
 nextPiece file w =
     elim (w .run .phase) [
       | Refusing n ↦ piece (line 0 (outcome.Refused n)) (inPhase Over w)

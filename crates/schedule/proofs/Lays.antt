@@ -19,7 +19,7 @@ use Rattle.schedule.specs.declared.Written.{Written}
 use Rattle.schedule.specs.declared.Written.the-variants.{Next, Refused}
 use Rattle.schedule.specs.declared.writing.Numbers.{Numbers}
 use Rattle.schedule.specs.Encoding.{headerBytes, eventBytes}
-use Rattle.schedule.specs.Writing.{Wrote, room, laid, wrote, answered, put, writtenHeader, writtenEvent}
+use Rattle.schedule.specs.Writing.{Wrote, room, laid, wrote, answered, putAt, writtenHeader, writtenEvent}
 use Rattle.schedule.specs.Inside.Laying.{two, tailBytes, bytesOf, fitted, allOrNone, putInRest}
 use Rattle.schedule.proofs.BytesNeeded.{tail-of-two, tail-of-three}
 
@@ -118,19 +118,19 @@ put-with-front false bytes out at = ap (λ (l : List ℕ). wrote l at 9) (take-a
 
 pub put-in-rest : (bytes out new : List ℕ) (at : ℕ) (r : Written)
     → answered new at r ≡ putInRest bytes (take (length out - at) (drop at out)) at
-    → answered (putMid at (length out - at) out new) at r ≡ put bytes out at
-unfolding put putInRest
+    → answered (putMid at (length out - at) out new) at r ≡ putAt bytes out at
+unfolding putAt putInRest
 put-in-rest bytes out new at r e =
     let same-room : min (length (drop at out)) (65536 - at) ≡ room out at = omega (arith, length-drop at out) in
     rw (rest-back out new at, answered-with-front (take at out) new at r, e, rest-is out at)
     (put-with-front (leb (length bytes) (min (length (drop at out)) (65536 - at))) bytes out at ∙ rw same-room)
 
-pub put-past : (bytes out : List ℕ) (at : ℕ) → 1 ≤ length bytes → length out < at → wrote out at 9 ≡ put bytes out at
-unfolding put
+pub put-past : (bytes out : List ℕ) (at : ℕ) → 1 ≤ length bytes → length out < at → wrote out at 9 ≡ putAt bytes out at
+unfolding putAt
 put-past bytes out at some h = rw (lt-leb (length bytes) (room out at) (omega arith))
 
 pub event-put : (e : Event) (out : List ℕ) (at : ℕ) (x : Numbers) → bytesOf x ≡ eventBytes e
-    → (w : Wrote) → w ≡ put (bytesOf x) out at → w ≡ writtenEvent e out at
+    → (w : Wrote) → w ≡ putAt (bytesOf x) out at → w ≡ writtenEvent e out at
 unfolding writtenEvent
 event-put e out at x is w is-put = rw is at is-put
 
@@ -139,7 +139,7 @@ module _ (h : Header) (out : List ℕ) (at : ℕ) (fit : Bool) (is : fit ≡ siz
   unfolding writtenHeader
   header-refused e = rw (← is, e)
 
-  pub header-put : fit ≡ true → (x : Numbers) → x ≡ two (h .nodes) (h .processes) → (w : Wrote) → w ≡ put (bytesOf x) out at
+  pub header-put : fit ≡ true → (x : Numbers) → x ≡ two (h .nodes) (h .processes) → (w : Wrote) → w ≡ putAt (bytesOf x) out at
       → w ≡ writtenHeader h out at
   unfolding writtenHeader headerBytes
   header-put e x is-two w is-put =

@@ -19,7 +19,7 @@ use Rattle.schedule.specs.declared.Written.{Written}
 use Rattle.schedule.specs.declared.Written.the-variants.{Next, Refused}
 use Rattle.schedule.specs.Encoding.{headerBytes, eventBytes}
 use Rattle.schedule.specs.Cursors.{start, headerAt, eventAt}
-use Rattle.schedule.specs.Writing.{Wrote, room, put, answered, writtenHeader, writtenEvent}
+use Rattle.schedule.specs.Writing.{Wrote, room, putAt, answered, writtenHeader, writtenEvent}
 
 -- ---- the reader
 
@@ -58,8 +58,8 @@ tells-apart at w t x y (Refused m) (Next n) e f =
     let here : at ≡ w .at = λ i. e i .at in
     absurd (omega (arith, t none))
 
-put-later : (bytes out : List ℕ) (at : ℕ) → 1 ≤ length bytes → Later at (put bytes out at)
-unfolding put
+put-later : (bytes out : List ℕ) (at : ℕ) → 1 ≤ length bytes → Later at (putAt bytes out at)
+unfolding putAt
 put-later bytes out at some =
     if (Later at) (leb (length bytes) (room out at)) (λ _ e. omega arith) (λ _ e. absurd (omega arith))
 

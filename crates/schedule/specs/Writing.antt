@@ -35,14 +35,14 @@ abbrev pub laid : List ℕ → List ℕ → ℕ → List ℕ
 laid bytes output at = take at output ++ over bytes (drop at output)
 
 -- "9: fewer bytes left than the header or event needs", "output unchanged"
-unfoldable pub put : List ℕ → List ℕ → ℕ → Wrote
-put bytes output at =
+unfoldable pub putAt : List ℕ → List ℕ → ℕ → Wrote
+putAt bytes output at =
     cond (leb (length bytes) (room output at)) (wrote (laid bytes output at) (at + length bytes) 0) (wrote output at 9)
 
 -- "The writer judges 7 (header sizes), then 9"
 unfoldable pub writtenHeader : Header → List ℕ → ℕ → Wrote
-writtenHeader h output at = cond (sizesFit (h .nodes) (h .processes)) (put (headerBytes h) output at) (wrote output at 7)
+writtenHeader h output at = cond (sizesFit (h .nodes) (h .processes)) (putAt (headerBytes h) output at) (wrote output at 7)
 
 -- "then events of kinds 0 to 5, and writes each into the rest of the output, then hands on"
 unfoldable pub writtenEvent : Event → List ℕ → ℕ → Wrote
-writtenEvent e output at = put (eventBytes e) output at
+writtenEvent e output at = putAt (eventBytes e) output at

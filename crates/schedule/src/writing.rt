@@ -10,7 +10,7 @@ ghost use Prim.Native.Nat.{_-_, _≤_, min};
 ghost use lib.ListN.{length};
 ghost use Rattle.numbers.specs.Numbers.{numberBytes};
 ghost use Rattle.schedule.specs.Encoding.{eventBytes};
-ghost use Rattle.schedule.specs.Writing.{put, answered, writtenHeader, writtenEvent};
+ghost use Rattle.schedule.specs.Writing.{putAt, answered, writtenHeader, writtenEvent};
 ghost use Rattle.schedule.specs.Inside.Laying.{two, three, tailBytes, bytesOf, fitted, allOrNone, putInRest};
 
 // The numbers that a header or an event is written as: two, or three.
@@ -127,7 +127,7 @@ fn put_event(rest: &mut [u8], at: usize, numbers: Numbers) -> Written
 
 // Writes the numbers into the rest of the output: a start past the output leaves none.
 fn write_numbers(out: &mut [u8], at: usize, numbers: Numbers) -> Written
-    ensures { λ r. ⌜ answered (now (out .exit)) at r ≡ put (bytesOf numbers) (now (out .entry)) at ⌝ }
+    ensures { λ r. ⌜ answered (now (out .exit)) at r ≡ putAt (bytesOf numbers) (now (out .entry)) at ⌝ }
 {
     if out.len() < at {
         return Written::Refused(9);

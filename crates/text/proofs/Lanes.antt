@@ -142,15 +142,15 @@ word-taken (b ∷ bytes) w h e =
     λ i. this i ∷ word-taken bytes (w / 256) (h .1) rest i
 
 -- each taken by itself
-abbrev pub bytesOf : ℕ → List ℕ
-bytesOf w =
+abbrev pub laneBytes : ℕ → List ℕ
+laneBytes w =
     (w % 256) ∷ (w / 256 % 256) ∷ (w / 65536 % 256) ∷ (w / 16777216 % 256) ∷ (w / 4294967296 % 256) ∷ (w / 1099511627776 % 256)
     ∷ (w / 281474976710656 % 256) ∷ (w / 72057594037927936) ∷ []
 
-pub bytes-spelt : (n w : ℕ) → w < 18446744073709551616 → w ≡ word (lastDigits 8 n) → bytesOf w ≡ lastDigits 8 n
+pub bytes-spelt : (n w : ℕ) → w < 18446744073709551616 → w ≡ word (lastDigits 8 n) → laneBytes w ≡ lastDigits 8 n
 unfolding lastDigits
 bytes-spelt n w fits e =
     let last : w / 72057594037927936 ≡ w / 72057594037927936 % 256 = omega arith in
-    let all : bytesOf w ≡ taken 8 w = rw last (simp div-div-eq-div-mul) in
+    let all : laneBytes w ≡ taken 8 w = rw last (simp div-div-eq-div-mul) in
     all ∙ word-taken (lastDigits 8 n) w
     (omega arith, (omega arith, (omega arith, (omega arith, (omega arith, (omega arith, (omega arith, (omega arith, tt)))))))) e

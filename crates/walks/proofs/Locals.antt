@@ -19,8 +19,8 @@ countUp zero k = []
 countUp (suc n) k = k ∷ countUp n (k + 1)
 
 -- the order in which they are freed: the n locals, the first first, then the k other entries
-abbrev pub leaving : (n k : ℕ) → List ℕ
-leaving n k = pairsDown n k ++ countUp k 0
+abbrev pub leavingLocals : (n k : ℕ) → List ℕ
+leavingLocals n k = pairsDown n k ++ countUp k 0
 
 -- ---- what is had of them
 
@@ -38,22 +38,22 @@ local-at [] k = (tyUnit, 0)
 local-at (e ∷ E) zero = e
 local-at (e ∷ E) (suc k) = local-at E k
 
-pub data Slot : Type 0 where
-  bare : Slot
-  holds : Val → Slot
+pub data Contents : Type 0 where
+  bare : Contents
+  holds : Val → Contents
 
-abbrev pub slot : {M : Type 1} {𝓤 : URA M} → Ty × ℕ → Slot → Item 𝓤
+abbrev pub slot : {M : Type 1} {𝓤 : URA M} → Ty × ℕ → Contents → Item 𝓤
 slot e bare = ‵ (froom (e .0) (e .1) 0)
 slot e (holds v) = ‵ (fat fullShare (e .0) (e .1) 0 v)
 
 -- the locals before Γ, the last first; those past the slots given are bare
-abbrev pub stacked : {M : Type 1} {𝓤 : URA M} → List (Ty × ℕ) → List Slot → List (Item 𝓤) → List (Item 𝓤)
+abbrev pub stacked : {M : Type 1} {𝓤 : URA M} → List (Ty × ℕ) → List Contents → List (Item 𝓤) → List (Item 𝓤)
 stacked [] ss Γ = Γ
 stacked (e ∷ E) [] Γ = stacked E [] (slot e bare ∷ ‵ (fdies (e .0) (e .1)) ∷ Γ)
 stacked (e ∷ E) (s ∷ ss) Γ = stacked E ss (slot e s ∷ ‵ (fdies (e .0) (e .1)) ∷ Γ)
 
 -- the same, the first first
-abbrev pub lined : {M : Type 1} {𝓤 : URA M} → List (Ty × ℕ) → List Slot → List (Item 𝓤) → List (Item 𝓤)
+abbrev pub lined : {M : Type 1} {𝓤 : URA M} → List (Ty × ℕ) → List Contents → List (Item 𝓤) → List (Item 𝓤)
 lined [] ss Γ = Γ
 lined (e ∷ E) [] Γ = slot e bare ∷ ‵ (fdies (e .0) (e .1)) ∷ lined E [] Γ
 lined (e ∷ E) (s ∷ ss) Γ = slot e s ∷ ‵ (fdies (e .0) (e .1)) ∷ lined E ss Γ
@@ -64,7 +64,7 @@ module _ {M : Type 1} {𝓤 : URA M} {H : Heap 𝓤} {A : Atoms 𝓤} {K : Type 
   allocates t [] k = alloc0 t $ k tt
   allocates t (local τ h ∷ ls) {Γ} {Kt} k = alloc1 t (λ b. allocates t ls {Kt = λ E. Kt ((τ, b) ∷ E)} (λ a. k (b, a)))
 
-  pub releases : K → (E : List (Ty × ℕ)) (ss : List Slot) {Γ : List (Item 𝓤)} {g : Goal 𝓤 H} → Seq K W Γ g → Seq K W (lined E ss Γ) (frees E g)
+  pub releases : K → (E : List (Ty × ℕ)) (ss : List Contents) {Γ : List (Item 𝓤)} {g : Goal 𝓤 H} → Seq K W Γ g → Seq K W (lined E ss Γ) (frees E g)
   releases t [] ss k = free0 t $ k
   releases t (e ∷ E) [] k = free1 t $ releases t E [] k
   releases t (e ∷ E) (bare ∷ ss) k = free1 t $ releases t E ss k
@@ -90,6 +90,6 @@ abbrev pub into : Body → Body
 into c = apart c .0
 
 -- what follows the first n parts
-abbrev pub after : ℕ → Body → Body
-after zero c = c
-after (suc n) c = after n (apart c .1)
+abbrev pub bodyAfter : ℕ → Body → Body
+bodyAfter zero c = c
+bodyAfter (suc n) c = bodyAfter n (apart c .1)

@@ -6,7 +6,7 @@ use Rattle.walks.proofs.Kit.{keep, rewrite, suffices, frame, look, init, of-opd
 use Rattle.walks.proofs.Kit.{pass0, fmOf, RattleType, Is, Room, nothing, only, Triple, Args, Meets, says, drop as let-go, addr, arith, take}
 use Rattle.walks.proofs.Kit.{length-map, length-take-le, take-at, drop-at, map, shadow, Array, each, array-field, FLaws}
 use Rattle.walks.proofs.Record.{R}
-use Rattle.walks.proofs.Locals.{spot, leaving, environment, holds, slot, local-at, releases}
+use Rattle.walks.proofs.Locals.{spot, leavingLocals, environment, holds, slot, local-at, releases}
 use Rattle.walks.proofs.Operands.{at-local, copied, lends-on}
 use Rattle.walks.proofs.Values.{typed-as, ByValue, IsA, of-struct, of-width, with-value, answers}
 use Rattle.walks.proofs.Parameters.{given, Parameters, Told, Ends, ends, Walk, meets-by-walk, tables-over, cites, enters}
@@ -185,7 +185,7 @@ module _ {M : Type 1} (𝓤 : URA M) (H : Heap 𝓤) (A : Atoms 𝓤) (W : Given
       let is-left = left-is (rs ++ drop n xs) t is-rs is-t in
       assigns ! (agg ! (and-then ! (copied ! (at 4 18) refl) (and-then ! (copied ! (at 4 9) refl) (no-more !)))) (at-local !)
       (init ! (at 4 0) refl (typed-as W left-values (leftOf (rs ++ drop n xs) t) is-left)) $
-      returns ! {Kf = Result} (look ! (at 4 0) refl) $ keep ! (leaving 19 4) $
+      returns ! {Kf = Result} (look ! (at 4 0) refl) $ keep ! (leavingLocals 19 4) $
       releases ! En (holds _ ∷ holds _ ∷ holds _ ∷ holds _ ∷ holds _ ∷ holds _ ∷ holds _ ∷ holds _ ∷ holds _ ∷ holds _ ∷ holds _ ∷ holds _
       ∷ holds _ ∷ holds _ ∷ holds _ ∷ holds _ ∷ holds _ ∷ holds _ ∷ holds _ ∷ []) (
       by ! (exits (leftOf (rs ++ drop n xs) t) m is-left (promised m rs t so (len-r ∙ many)) same)))))))

@@ -6,7 +6,7 @@ use Rattle.walks.proofs.Kit.{move, keep, drop, split, join, fsplit, fjoin, feqL
 use Rattle.walks.proofs.Kit.{assigns, land, returns, params1, pass1, pass0, fmOf, RefT, slice-vals, MutSlice, finally, nothing, Contract}
 use Rattle.walks.proofs.Kit.{Triple, Args, Meets, says, emp, replicate}
 use Rattle.walks.proofs.Record.{R, records}
-use Rattle.walks.proofs.Locals.{spot, leaving, environment, holds, releases}
+use Rattle.walks.proofs.Locals.{spot, leavingLocals, environment, holds, releases}
 use Rattle.walks.proofs.Operands.{at-local, copied, field-of, lends-on}
 use Rattle.walks.proofs.Values.{typed-as, ByValue, IsA, of-struct, of-enum, of-width, with-value, answers}
 use Rattle.walks.proofs.Calls.{Met, calls-met}
@@ -186,7 +186,7 @@ module _ {M : Type 1} (𝓤 : URA M) (H : Heap 𝓤) (A : Atoms 𝓤) (W : Given
       land ! (at-local !) (init ! (at 6 15) refl (tt, tt)) $
       assigns ! (of-opd ! (field-of ! (at 6 7) 1 refl refl refl)) (at-local !)
       (init ! (at 6 0) refl (typed-as W made-values (t .answer) (answer-is t is))) $
-      returns ! {Kf = Result} (look ! (at 6 0) refl) $ keep ! (leaving 18 6) $
+      returns ! {Kf = Result} (look ! (at 6 0) refl) $ keep ! (leavingLocals 18 6) $
       releases ! En (holds _ ∷ holds _ ∷ holds _ ∷ holds _ ∷ holds _ ∷ holds _ ∷ holds _ ∷ holds _ ∷ holds _ ∷ holds _ ∷ holds _ ∷ holds _
       ∷ holds _ ∷ holds _ ∷ holds _ ∷ holds _ ∷ holds _ ∷ holds _ ∷ []) (
       by ! (exits t (memory-last zs sizes) (rs .0) (answer-is t is) e f same len))))))

@@ -10,7 +10,7 @@ use Rattle.walks.proofs.Kit.{unit-lit, of-opd, bin, first, branches, blocks, sk
 use Rattle.walks.proofs.Kit.{returns, params1, pass1, pass0, fmOf, Is, sliceVal, Room, heres, codedHoleys, Held, row, place-is, MutSlice}
 use Rattle.walks.proofs.Kit.{nothing, Triple, Args, Meets, says, replicate}
 use Rattle.walks.proofs.Record.{record-values, R, records, vals, size}
-use Rattle.walks.proofs.Locals.{spot, leaving, Addresses, environment, bare, holds, slot, local-at, stacked, releases, into, after}
+use Rattle.walks.proofs.Locals.{spot, leavingLocals, Addresses, environment, bare, holds, slot, local-at, stacked, releases, into, bodyAfter}
 use Rattle.walks.proofs.Operands.{at-local, copied, field-of}
 use Rattle.walks.proofs.Values.{typed-as, of-width, with-value}
 use Rattle.walks.proofs.Parameters.{given, lent-slice, Parameters, Told, Ends, ends, Walk, meets-by-walk, tables-over, cites, enters}
@@ -36,10 +36,10 @@ abbrev at : ℕ → ℕ → ℕ
 at = spot 8
 
 abbrev turn : Body
-turn = into (into (into (after 2 (code.function .body))))
+turn = into (into (into (bodyAfter 2 (code.function .body))))
 
 abbrev rest : Body
-rest = after 3 (code.function .body)
+rest = bodyAfter 3 (code.function .body)
 
 module _ {M : Type 1} (𝓤 : URA M) (H : Heap 𝓤) (A : Atoms 𝓤) (W : Given 𝓤 H A) (at-mem : Memory → SProp 𝓤) (run : Routine → Fun 𝓤)
     (κs : Lfts 1) (qs : Shares 1) (a : Args fn.signature κs) (are : Told fn.ended params κs a) (within : a .1 .0 ≤ length (a .0 .now)) where
@@ -120,7 +120,7 @@ module _ {M : Type 1} (𝓤 : URA M) (H : Heap 𝓤) (A : Atoms 𝓤) (W : Given
         first ! $ branches ! (copied ! (at 4 5) refl)
         (λ less. let small = ltb→lt (i .0) n less in let in-row = lt-of-lt-of-le small within in
         let in-list = subst (λ (m : ℕ). i .0 < m) (sym (laid-length freshRecord ys (i .0) (le-of-lt in-row))) in-row in
-        skips ! $ exec ! (𝓣 .C) (𝓣 .Λ) En (after 2 turn) (anyQ (Turned i)) $
+        skips ! $ exec ! (𝓣 .C) (𝓣 .Λ) En (bodyAfter 2 turn) (anyQ (Turned i)) $
         -- where row[i] stands
         assigns ! (bin ! (copied ! (at 4 4) refl) (lit ! tt) (scaled-fits (i .0) (length ys) size in-row (room .1))) (at-local !)
         (init ! (at 4 6) refl (tt, scaled-fits (i .0) (length ys) size in-row (room .1))) $
@@ -139,7 +139,7 @@ module _ {M : Type 1} (𝓤 : URA M) (H : Heap 𝓤) (A : Atoms 𝓤) (W : Given
         assigns ! (of-opd ! (unit-lit !)) (from ! {i = 0} (stop !)) (init ! (at 4 0) refl (tt, tt)) $
         row-closed ! tt (named 0) ys (laid (i .0)) b o room (laid-length freshRecord ys (i .0) (le-trans (i .1) within)) $
         -- [the row's; κ; _7 …]
-        returns ! {Kf = Result} (look ! (at 2 0) refl) $ keep ! (leaving 8 2) $
+        returns ! {Kf = Result} (look ! (at 2 0) refl) $ keep ! (leavingLocals 8 2) $
         releases ! En (holds _ ∷ holds _ ∷ holds _ ∷ holds _ ∷ holds _ ∷ holds _ ∷ []) (
         by ! (subst (λ (m : ℕ). ent 𝓤 (⋆ 𝓤 H A (Closed m)) (Result vunit)) (sym (le-antisymm (i .1) (nltb→le (i .0) n over))) exits)))
 

@@ -7,7 +7,7 @@ use Rattle.walks.proofs.Kit.{fjoin, suffices, frame, atRet, look, look-raw, ini
 use Rattle.walks.proofs.Kit.{and-then, no-more, first, branches, skips, exec, assigns, land, returns, returns-within, params1, pass1, pass0, fmOf}
 use Rattle.walks.proofs.Kit.{RefT, sliceVal, MutSlice, Room, place-is, nothing, Triple, Args, Meets, says, emp}
 use Rattle.walks.proofs.Record.{record-values, R, records, size}
-use Rattle.walks.proofs.Locals.{spot, leaving, environment, bare, holds, slot, local-at, after, releases}
+use Rattle.walks.proofs.Locals.{spot, leavingLocals, environment, bare, holds, slot, local-at, bodyAfter, releases}
 use Rattle.walks.proofs.Operands.{at-local, copied, field-of, lends-on}
 use Rattle.walks.proofs.Values.{typed-as, ByValue, IsA, of-enum, with-value, answers}
 use Rattle.walks.proofs.Parameters.{given, lent-slice, Parameters, Told, Ends, ends, Walk, meets-by-walk, tables-over, cites, enters}
@@ -191,10 +191,10 @@ module _ {M : Type 1} (𝓤 : URA M) (H : Heap 𝓤) (A : Atoms 𝓤) (W : Given
       (init ! (at 8 17) refl (typed-as W outcome-values (Refused 7) seven-is)) $
       assigns ! (agg ! (and-then ! (copied ! (at 8 4) refl) (and-then ! (copied ! (at 8 17) refl) (no-more !)))) (from ! {i = 0} (stop !))
       (init ! (at 8 0) refl (typed-as W said-values (refused z) (refused-is z is-z))) $
-      returns-within ! Result refl (look ! (at 8 0) refl) $ keep ! (leaving 34 8) $
+      returns-within ! Result refl (look ! (at 8 0) refl) $ keep ! (leavingLocals 34 8) $
       releases ! En (holds _ ∷ holds _ ∷ holds _ ∷ holds _ ∷ holds _ ∷ holds _ ∷ holds _ ∷ holds _ ∷ bare ∷ bare ∷ bare ∷ bare ∷ bare ∷ bare
       ∷ holds _ ∷ holds _ ∷ holds _ ∷ holds _ ∷ []) (by ! (refuses (ltb→lt (length ys) (z .processes) t))))
-      (λ t. let long = nltb→le (length ys) (z .processes) t in skips ! $ exec ! (𝓣 .C) (𝓣 .Λ) En (after 5 (code.function .body)) (atRet En Result) $
+      (λ t. let long = nltb→le (length ys) (z .processes) t in skips ! $ exec ! (𝓣 .C) (𝓣 .Λ) En (bodyAfter 5 (code.function .body)) (atRet En Result) $
       -- is the process past the process count?
       assigns ! (of-opd ! (field-of ! (at 8 6) 0 refl refl refl)) (at-local !) (init ! (at 8 8) refl (typed-as W process-values p is-p)) $
       assigns ! (of-opd ! (field-of ! (at 8 6) 1 refl refl refl)) (at-local !) (init ! (at 8 9) refl (typed-as W action-values (e .action) is-x)) $
@@ -215,13 +215,13 @@ module _ {M : Type 1} (𝓤 : URA M) (H : Heap 𝓤) (A : Atoms 𝓤) (W : Given
       land ! (from ! {i = 11} (stop !)) (init ! (at 6 11) refl (typed-as W handed-values t is)) $
       assigns ! (of-opd ! (field-of ! (at 6 11) 1 refl refl refl)) (from ! {i = 0} (stop !))
       (init ! (at 6 0) refl (typed-as W said-values (t .said) (said-is t is))) $
-      returns-within ! Result refl (look ! (at 6 0) refl) $ keep ! (leaving 34 6) $
+      returns-within ! Result refl (look ! (at 6 0) refl) $ keep ! (leavingLocals 34 6) $
       releases ! En (holds _ ∷ holds _ ∷ holds _ ∷ holds _ ∷ holds _ ∷ holds _ ∷ holds _ ∷ holds _ ∷ holds _ ∷ holds _ ∷ holds _ ∷ holds _
       ∷ bare ∷ bare ∷ holds _ ∷ holds _ ∷ holds _ ∷ bare ∷ holds _ ∷ holds _ ∷ holds _ ∷ holds _ ∷ holds _ ∷ holds _ ∷ holds _ ∷ []) (
       by ! (exits (t .said) m ys (said-is t is) (past-count m₀ ys e m t long past freshRecord so) same refl)))))
       (λ t. let below = nleb→lt (z .processes) i t in let within = lt-of-lt-of-le below long in
       let scaled = scaled-fits i (length ys) size within (room .1) in
-      skips ! $ exec ! (𝓣 .C) (𝓣 .Λ) En (after 10 (code.function .body)) (atRet En Result) $
+      skips ! $ exec ! (𝓣 .C) (𝓣 .Λ) En (bodyAfter 10 (code.function .body)) (atRet En Result) $
       assigns ! (un ! (copied ! (at 8 10) refl) (record { fits = widens i i-fits })) (at-local !)
       (init ! (at 8 12) refl (tt, record { fits = widens i i-fits })) $
       lends-on ! (at 8 1) (at 8 25) (at 8 26) (are .0 .0 .1 .0) refl refl refl refl refl tt refl refl refl tt $
@@ -255,7 +255,7 @@ module _ {M : Type 1} (𝓤 : URA M) (H : Heap 𝓤) (A : Atoms 𝓤) (W : Given
       row-closed ! tt (named 3) ys (set ys i (t .advanced)) b o room (length-set ys i (t .advanced)) $
       -- [the row's; κ₃; the tokens; the last words; _33 …]
       move ! (2 ∷ 3 ∷ 4 ∷ 5 ∷ 1 ∷ 0 ∷ []) $
-      returns ! {Kf = Result} (look ! (at 6 0) refl) $ keep ! (leaving 34 6) $
+      returns ! {Kf = Result} (look ! (at 6 0) refl) $ keep ! (leavingLocals 34 6) $
       releases ! En (holds _ ∷ holds _ ∷ holds _ ∷ holds _ ∷ holds _ ∷ holds _ ∷ holds _ ∷ holds _ ∷ holds _ ∷ holds _ ∷ holds _ ∷ bare
       ∷ holds _ ∷ holds _ ∷ holds _ ∷ holds _ ∷ holds _ ∷ bare ∷ bare ∷ bare ∷ bare ∷ bare ∷ bare ∷ bare ∷ bare ∷ holds _ ∷ holds _ ∷ holds _
       ∷ holds _ ∷ holds _ ∷ holds _ ∷ holds _ ∷ holds _ ∷ holds _ ∷ []) (

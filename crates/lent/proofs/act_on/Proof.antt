@@ -6,7 +6,7 @@ use Rattle.walks.proofs.Kit.{fsplit, fsplit3, fjoin, fjoin3, feqI, suffices, fr
 use Rattle.walks.proofs.Kit.{and-then, no-more, assigns, land, returns, params1, pass1, pass0, fmOf, Is, shows, mem, Behind, RefT, opens, closes}
 use Rattle.walks.proofs.Kit.{spelt, owned, peeks, nothing, Triple, Args, Meets, says}
 use Rattle.walks.proofs.Record.{record-values, R, records, vals}
-use Rattle.walks.proofs.Locals.{spot, leaving, environment, holds, releases}
+use Rattle.walks.proofs.Locals.{spot, leavingLocals, environment, holds, releases}
 use Rattle.walks.proofs.Operands.{at-local, copied, field-of, lends-on}
 use Rattle.walks.proofs.Values.{typed-as, IsA, with-value, answers}
 use Rattle.walks.proofs.Parameters.{given, lent, Parameters, Told, Ends, ends, Walk, meets-by-walk, tables-over, cites, enters}
@@ -119,7 +119,7 @@ module _ {M : Type 1} (𝓤 : URA M) (H : Heap 𝓤) (A : Atoms 𝓤) (W : Given
       (init ! (at 8 0) refl (typed-as W said-values (t .said) (said-is t is))) $
       owned ! R (Is R) (record-values .makes 𝓤 H A W) (t .advanced) _ (advanced-is t is) $ move ! (5 ∷ 0 ∷ 6 ∷ 7 ∷ 8 ∷ []) $
       closes ! tt R (t .advanced) (vals (t .advanced)) (r .ptr .0) (r .ptr .1) $
-      returns ! {Kf = Result} (look ! (at 7 0) refl) $ keep ! (leaving 16 7) $
+      returns ! {Kf = Result} (look ! (at 7 0) refl) $ keep ! (leavingLocals 16 7) $
       releases ! En (holds _ ∷ holds _ ∷ holds _ ∷ holds _ ∷ holds _ ∷ holds _ ∷ holds _ ∷ holds _ ∷ holds _ ∷ holds _ ∷ holds _ ∷ holds _
       ∷ holds _ ∷ holds _ ∷ holds _ ∷ holds _ ∷ []) (by ! (exits t m (said-is t is) so same)))))
 

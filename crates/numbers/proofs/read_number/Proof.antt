@@ -4,14 +4,14 @@ use mathlib.Core.Path.{_≡_, refl}
 use borrow.Author.Needs.{needs}
 use lib.ListN.{take, drop}
 use Rattle.numbers.specs.Numbers.{readNumber}
-use Rattle.numbers.proofs.Gathers.{afterGroups, behind, still-groups, Gathered, none-gathered, group-more}
+use Rattle.numbers.proofs.Gathers.{afterGroups, behind, still-groups, GatheredSoFar, none-gathered, group-more}
 use Rattle.numbers.proofs.Gathers.{byte-missing, last-judged, no-last-group}
 use Rattle.numbers.proofs.read_number.Statement.{statement}
 use Rattle.numbers.proofs.read_number.Tie as tie
 
 abbrev Inv-loop : tie.InvT-loop
 Inv-loop bytes at groups₀ count₀ next₀ groups count next =
-    Gathered count groups (behind (take count groups) (afterGroups count (drop next bytes)) ≡ readNumber (drop at bytes))
+    GatheredSoFar count groups (behind (take count groups) (afterGroups count (drop next bytes)) ≡ readNumber (drop at bytes))
 
 abbrev μ-loop : tie.MeasureT-loop
 μ-loop bytes at groups₀ count₀ next₀ groups count next = 5 - count

@@ -26,7 +26,7 @@ use Rattle.table.proofs.Invariant.OpenOperations.{course, busy-of, Answ
 use Rattle.table.proofs.Invariant.HeldByPlace.{actorNode, PutBy, Changes, keeps-all, inserted, struck, changes}
 use Rattle.table.proofs.Invariant.Winners.{Inserted, inserted-at}
 use Rattle.table.proofs.Invariant.Strikes.{StrikeOf, strike-of}
-use Rattle.table.proofs.Order.Needs.{Tells}
+use Rattle.table.proofs.Order.Needs.{AnswerTells}
 use Rattle.table.proofs.History.Reads.{operation-is, operationFor, asks-insert, asks-delete, asks-find, kindAsked, heldAt, Told, true-or-told}
 
 -- ---- the current operation of a process
@@ -137,7 +137,7 @@ module _ (ρ : Played) (T r : ℕ) (a : Answer) (is : IsOperation ρ r) (h : ans
   told = true-or-told ρ (λ x. false) T r a is h
 
   -- a moment that agrees with an answer that changed nothing
-  was : (k : Kind) → kindAsked (ρ .events r .action) ≡ k → (w : Told ρ (λ x. false) T r a is h) → Tells k (a .value) (heldAt ρ (w .moment) asks)
+  was : (k : Kind) → kindAsked (ρ .events r .action) ≡ k → (w : Told ρ (λ x. false) T r a is h) → AnswerTells k (a .value) (heldAt ρ (w .moment) asks)
   was k q w = rw q at (w .tells)
 
   between : (w : Told ρ (λ x. false) T r a is h) → MomentBetween r (a .time) (w .moment)

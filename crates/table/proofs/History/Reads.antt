@@ -26,7 +26,7 @@ use Rattle.table.proofs.Invariant.Known.{delete-says, find-says}
 use Rattle.table.proofs.Invariant.Played.{Played, memoryAt, recordThen, outcomeAt, processAt, kindAt, addressAsked, askedAt, IsOperation}
 use Rattle.table.proofs.Invariant.Played.{answerTo}
 use Rattle.table.proofs.Invariant.OpenOperations.{AnsweredAt, answered, value-true}
-use Rattle.table.proofs.Order.Needs.{Tells, Witness}
+use Rattle.table.proofs.Order.Needs.{AnswerTells, Witness}
 
 -- ---- operations
 
@@ -118,7 +118,7 @@ module _ (ρ : Played) where
     R = recordThen ρ (a .time) (processAt ρ r)
 
     telling : (k : Kind) → kindAsked (ρ .events r .action) ≡ k → (w : ℕ) → Since r (a .time) w
-        → Tells k (a .value) (HeldIn (M w) (askedAt ρ r)) → Told
+        → AnswerTells k (a .value) (HeldIn (M w) (askedAt ρ r)) → Told
     telling k q w s t = record {
       moment = w;
       begun = s .after;

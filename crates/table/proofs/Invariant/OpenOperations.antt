@@ -13,7 +13,7 @@ use Rattle.table.proofs.Invariant.Moments.{Course}
 use Rattle.table.proofs.Invariant.KnownWrites.{goesAt, writesAt, saysAt}
 use Rattle.table.proofs.Invariant.EventCases.{recordAt, Able, Happens, refuses, inserts, steps, alone, happens}
 use Rattle.table.proofs.Invariant.GoingOn.{goes-on}
-use Rattle.table.proofs.Invariant.Played.{Played, stateAt, memoryAt, recordThen, processAt, IsOperation, answerTo, handedOut, answer-stays}
+use Rattle.table.proofs.Invariant.Played.{Played, stateAt, memoryAt, recordThen, processAt, IsOperation, answerTo, hands, answer-stays}
 use Rattle.table.proofs.Invariant.Played.{answer-later, answer-else, answer-quiet, answer-now, answer-early}
 use Rattle.table.proofs.Invariant.RunInvariant.{Busy, Invariant, next-is, handed-is, memory-is, Becomes, record-is, records-else, orderly-at}
 use Rattle.table.proofs.Invariant.RunInvariant.{invariant}
@@ -84,7 +84,7 @@ module _ (ρ : Played) where
     I = invariant ρ t
 
     -- an event that is no answer
-    still-open : handedOut ρ t ≡ none → Busy ρ (suc t) p r
+    still-open : hands ρ t ≡ none → Busy ρ (suc t) p r
     still-open h = still-busy t p r b (answer-quiet ρ t r h ∙ b .opened)
 
     -- another process's event

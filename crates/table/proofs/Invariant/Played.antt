@@ -58,8 +58,8 @@ abbrev pub answerTo : Played → (T r : ℕ) → Option Answer
 answerTo ρ T r = answer (ρ .start) (ρ .events) T r
 
 -- what event t hands out
-abbrev pub handedOut : Played → ℕ → Option Answer
-handedOut ρ t = answerAt t (outcomeAt ρ t)
+abbrev pub hands : Played → ℕ → Option Answer
+hands ρ t = answerAt t (outcomeAt ρ t)
 
 -- ---- answers through an event
 
@@ -91,11 +91,11 @@ module _ (ρ : Played) where
   answer-else t r h = rw (ne-eqb (processAt ρ t) (processAt ρ r) (λ q. h (sym q))) (simp (cond-same, first-none))
 
   -- an event that hands out nothing
-  pub answer-quiet : (t r : ℕ) → handedOut ρ t ≡ none → answerTo ρ (suc t) r ≡ answerTo ρ t r
+  pub answer-quiet : (t r : ℕ) → hands ρ t ≡ none → answerTo ρ (suc t) r ≡ answerTo ρ t r
   unfolding answer
   answer-quiet t r h = rw h (simp (cond-same, first-none))
 
-  pub answer-now : (t r : ℕ) → r < t → processAt ρ r ≡ processAt ρ t → answerTo ρ t r ≡ none → answerTo ρ (suc t) r ≡ handedOut ρ t
+  pub answer-now : (t r : ℕ) → r < t → processAt ρ r ≡ processAt ρ t → answerTo ρ t r ≡ none → answerTo ρ (suc t) r ≡ hands ρ t
   unfolding answer
   answer-now t r l q h = rw (h, lt-ltb r t l, eq-eqb (processAt ρ t) (processAt ρ r) (sym q))
 

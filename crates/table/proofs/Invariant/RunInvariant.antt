@@ -28,7 +28,7 @@ use Rattle.table.proofs.Invariant.EventCases.{recordAt, stateWith, reco
 use Rattle.table.proofs.Invariant.EventCases.{happens}
 use Rattle.table.proofs.Invariant.GoingOn.{goes-on}
 use Rattle.table.proofs.Invariant.Played.{Played, stateAt, memoryAt, recordThen, outcomeAt, processAt, kindAt, addressAsked, askedAt}
-use Rattle.table.proofs.Invariant.Played.{run-sizes-stay, IsOperation, answerTo, handedOut, answer-stays, answer-else, answer-quiet}
+use Rattle.table.proofs.Invariant.Played.{run-sizes-stay, IsOperation, answerTo, hands, answer-stays, answer-else, answer-quiet}
 use Rattle.table.proofs.Invariant.Played.{answer-now, answer-early}
 
 module _ (ρ : Played) where
@@ -121,7 +121,7 @@ module _ (ρ : Played) where
       (λ r pr. answer-else ρ t r (λ z. ne (sym pr ∙ z)))
 
   -- an operation is requested
-  begins : (t : ℕ) → IsOperation ρ t → handedOut ρ t ≡ none → Resting t (P t) → R (suc t) (P t) .kept .status ≢ Idle
+  begins : (t : ℕ) → IsOperation ρ t → hands ρ t ≡ none → Resting t (P t) → R (suc t) (P t) .kept .status ≢ Idle
       → askedIn (R (suc t) (P t)) ≡ askedAt ρ t → KnownOf M t (suc t) (P t) (R (suc t) (P t)) (e t .action) → Working (suc t) (P t)
   begins t is-operation hn x status address known = record {
     status = status;
@@ -141,7 +141,7 @@ module _ (ρ : Played) where
   }
 
   -- an operation is answered
-  finishes : (t : ℕ) (a : Answer) → (IsOperation ρ t → ⊥) → handedOut ρ t ≡ some a → R (suc t) (P t) .kept .status ≡ Idle → Resting (suc t) (P t)
+  finishes : (t : ℕ) (a : Answer) → (IsOperation ρ t → ⊥) → hands ρ t ≡ some a → R (suc t) (P t) .kept .status ≡ Idle → Resting (suc t) (P t)
   finishes t a no′ hs status = record {
     status = λ l. status;
     done = λ r i l pr h. elim (ℕ-discrete r t) [
@@ -164,7 +164,7 @@ module _ (ρ : Played) where
     unfolding at
     next-is = ap (λ z. z .after) left
 
-    pub handed-is : handedOut ρ t ≡ answerAt t (d .outcome)
+    pub handed-is : hands ρ t ≡ answerAt t (d .outcome)
     handed-is = ap (answerAt t) outcome-is
 
     pub memory-is : M (suc t) ≡ d .after .memory

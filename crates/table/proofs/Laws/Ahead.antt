@@ -33,8 +33,8 @@ goes-or-stops P notInUse goes t u a = u
 goes-or-stops P notAbove goes t u a = a
 
 -- what a walk with k steps left has after a node, from what lies ahead
-abbrev pub after : ℕ → Memory → Ahead → List Node
-after k m x = elim x [ onto y ↦ y ∷ walk k m y | tailAhead ↦ [] | notInUse ↦ [] | notAbove ↦ [] ]
+abbrev pub walkOn : ℕ → Memory → Ahead → List Node
+walkOn k m x = elim x [ onto y ↦ y ∷ walk k m y | tailAhead ↦ [] | notInUse ↦ [] | notAbove ↦ [] ]
 
 module _ (m : Memory) (n : Node) where
   pub goes-onward : Onward m n (follows m n) → ahead m n ≡ onto (follows m n)
@@ -67,7 +67,7 @@ module _ (m : Memory) (n : Node) where
 
   pub walk-onward : (k : ℕ) (y : Node) → ahead m n ≡ onto y → walk (suc k) m n ≡ y ∷ walk k m y
   unfolding walk
-  walk-onward k y q = ap (after k m) q
+  walk-onward k y q = ap (walkOn k m) q
 
   -- before tail it stops
   pub meets-tail : follows m n ≡ tailNode → ahead m n ≡ tailAhead
@@ -77,7 +77,7 @@ module _ (m : Memory) (n : Node) where
   pub walk-ended : ahead m n ≡ tailAhead → (k : ℕ) → walk k m n ≡ []
   unfolding walk
   walk-ended q zero = refl
-  walk-ended q (suc k) = ap (after k m) q
+  walk-ended q (suc k) = ap (walkOn k m) q
 
 -- ---- the walk ends by itself: of the nodes in use, fewer sort above each node that it goes on to
 
@@ -131,10 +131,10 @@ enough : (k steps : ℕ) (m : Memory) (n : Node) → toPass m n ≤ k → k ≤ 
 unfolding walk
 enough zero zero m n few more = refl
 enough zero (suc j) m n few more =
-    goes-or-stops (λ x. after j m x ≡ []) (ahead m n) (λ y on. absurd (omega (arith, fewer-to-pass m n y on))) refl refl refl
+    goes-or-stops (λ x. walkOn j m x ≡ []) (ahead m n) (λ y on. absurd (omega (arith, fewer-to-pass m n y on))) refl refl refl
 enough (suc k) zero m n few more = absurd (omega arith)
 enough (suc k) (suc j) m n few more =
-    goes-or-stops (λ x. after j m x ≡ after k m x) (ahead m n)
+    goes-or-stops (λ x. walkOn j m x ≡ walkOn k m x) (ahead m n)
     (λ y on. ap (λ ns. y ∷ ns) (enough k j m y (omega (arith, fewer-to-pass m n y on)) (omega arith))) refl refl refl
 
 module _ (m : Memory) (n : Node) where
@@ -143,6 +143,6 @@ module _ (m : Memory) (n : Node) where
   walk-ends-by-itself steps more = enough (m .count) steps m n (higher-most (m .addresses) (rank (m .addresses) n) (m .count)) more
 
   -- so it goes on from node to node without counting steps
-  pub nodes-after : nodesAfter m n ≡ after (m .count) m (ahead m n)
+  pub nodes-after : nodesAfter m n ≡ walkOn (m .count) m (ahead m n)
   unfolding walk
   nodes-after = sym (walk-ends-by-itself (suc (m .count)) (omega arith))

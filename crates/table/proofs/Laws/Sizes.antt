@@ -264,7 +264,7 @@ module _ (m : Memory) (room : Room m) (b : Beyond) where
 -- ---- whole events
 
 -- the lent tables hold the stated sizes
-pub record Holds (σ : State) : Type 0 where
+pub record HoldsSizes (σ : State) : Type 0 where
   pub tables : LongEnough (σ .memory .nodes) (lengths (σ .memory))
   pub row : σ .memory .processes ≤ length (σ .row)
 
@@ -292,7 +292,7 @@ module _ (b : Beyond) where
   abbrev pub longerLeaves : List Record → Leaves → Leaves
   longerLeaves rs x = leavesIn (longerState rs (x .after)) (x .outcome)
 
-module _ (b : Beyond) (rs : List Record) (σ : State) (holds : Holds σ) (e : Event) where
+module _ (b : Beyond) (rs : List Record) (σ : State) (holds : HoldsSizes σ) (e : Event) where
   σ⁺ : State
   σ⁺ = longerState b rs σ
 
@@ -348,7 +348,7 @@ sizes-stay σ e =
     })
     (record { memory = same-sizes m; row = refl })
 
-pub holds-stays : (σ : State) (e : Event) → Holds σ → Holds (event σ e .after)
+pub holds-stays : (σ : State) (e : Event) → HoldsSizes σ → HoldsSizes (event σ e .after)
 holds-stays σ e h =
     let s = sizes-stay σ e in
     record {

@@ -14,7 +14,7 @@ use Rattle.record.specs.declared.Process.{Process}
 use Rattle.record.specs.declared.Address.{Address}
 use Rattle.table.specs.History.{Kind, insert, delete, find, Answer, Operation, Set, History, Slot, NeverFalls, Order, SameAnswers, worked}
 use Rattle.table.specs.Answers.{StandsBefore}
-use Rattle.table.proofs.Order.Teeth.{after, in-stays}
+use Rattle.table.proofs.Order.Teeth.{setAfter, in-stays}
 
 -- ---- by their moments
 
@@ -71,7 +71,7 @@ found-in : (a : Address) (s : Set) (l : List Slot) → ((x : Slot) → List·Mem
 found-in a s [] n e z u v m k q h = absurd (List·Memᴰ·not-nil m)
 found-in a s (x ∷ l) n e z u v m k q h = elim (List·Memᴰ·cases-cons m) [
   | inl p ↦ subst (λ y. y .operation .answer ≡ some v → y .operation .kind ≡ find → y .operation .address ≡ a → v .value ≡ True) (sym p) here h k q
-  | inr m′ ↦ found-in a (after x s) l (λ y i. n y (List·Memᴰ·tail i))
+  | inr m′ ↦ found-in a (setAfter x s) l (λ y i. n y (List·Memᴰ·tail i))
       (in-stays (x .operation .kind) a (x .operation .address) s (n x (List·Memᴰ·head refl)) e) (z .1) u v m′ k q h
 ]
   where
@@ -80,9 +80,9 @@ found-in a s (x ∷ l) n e z u v m k q h = elim (List·Memᴰ·cases-cons m) [
 
 same-answers-after : (s : Set) (xs ys : List Slot) → SameAnswers s (xs ++ ys) → SameAnswers (worked s xs) ys
 same-answers-after s [] ys z = z
-same-answers-after s (x ∷ xs) ys z = same-answers-after (after x s) xs ys (z .1)
+same-answers-after s (x ∷ xs) ys z = same-answers-after (setAfter x s) xs ys (z .1)
 
-in-inserted : (s : Set) (x : Slot) → x .operation .kind ≡ insert → after x s (x .operation .address) ≡ true
+in-inserted : (s : Set) (x : Slot) → x .operation .kind ≡ insert → setAfter x s (x .operation .address) ≡ true
 in-inserted s x k = rw (k, eq-eqb (x .operation .address .0) (x .operation .address .0) refl) refl
 
 -- an operation of the history, of that kind and address, and its answer
@@ -122,6 +122,6 @@ find-after-insert-is-not-false H no-delete a i f later order = omega (arith, tru
         no-delete (x .request) (x .operation) (order .stand x n .asked)
 
     true-instead : False ≡ True
-    true-instead = found-in a (after (slotOf i (put .0)) then) (b .later) kept (in-inserted then (slotOf i (put .0)) refl)
+    true-instead = found-in a (setAfter (slotOf i (put .0)) then) (b .later) kept (in-inserted then (slotOf i (put .0)) refl)
         (same-answers-after (H .start) (b .earlier) (slotOf i (put .0) ∷ b .later) (subst (SameAnswers (H .start)) (b .parts) (order .answers)) .1)
         (slotOf f (sought .0)) (record { time = f .time; value = False }) (b .after) refl refl refl

@@ -10,10 +10,10 @@ use Rattle.record.specs.declared.Address.{Address}
 use Rattle.table.specs.History.{Kind, insert, delete, find, Answer, Operation, History}
 
 -- the answer v leaves the set as it is, and is right where In says whether the address is in it
-abbrev pub Tells : Kind → (v : ℕ) (In : Type 0) → Type 0
-Tells insert v In = (v ≡ False) × In
-Tells delete v In = (v ≡ False) × (In → ⊥)
-Tells find v In = ((v ≡ True) × In) ⊎ ((v ≡ False) × (In → ⊥))
+abbrev pub AnswerTells : Kind → (v : ℕ) (In : Type 0) → Type 0
+AnswerTells insert v In = (v ≡ False) × In
+AnswerTells delete v In = (v ≡ False) × (In → ⊥)
+AnswerTells find v In = ((v ≡ True) × In) ⊎ ((v ≡ False) × (In → ⊥))
 
 -- a moment between request and answer that agrees with the answer
 pub record Witness (H : History) (held : ℕ → Address → Type 0) (r : ℕ) (o : Operation) (v : Answer) : Type 0 where
@@ -21,7 +21,7 @@ pub record Witness (H : History) (held : ℕ → Address → Type 0) (r : ℕ) (
   pub begun : r < moment
   pub ended : moment ≤ v .time
   pub there : moment ≤ H .events
-  pub tells : Tells (o .kind) (v .value) (held moment (o .address))
+  pub tells : AnswerTells (o .kind) (v .value) (held moment (o .address))
 
 -- ---- changes, at event t
 

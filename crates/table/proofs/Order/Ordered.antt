@@ -15,7 +15,7 @@ use Rattle.record.specs.Record.{True, Fail}
 use Rattle.table.proofs.Common.{none}
 use Rattle.table.specs.History.{Kind, insert, delete, find, Answer, Operation, Set, History, Slot, Stands, NeverFalls, NoneTwice, Order}
 use Rattle.basics.proofs.Tests.{if-eq, none-or-some}
-use Rattle.table.proofs.Order.Needs.{Tells, Witness, Adds, Removes, Change, still, by, IsBy, Supplies}
+use Rattle.table.proofs.Order.Needs.{AnswerTells, Witness, Adds, Removes, Change, still, by, IsBy, Supplies}
 use Rattle.table.proofs.Order.Replay.{falls-never-joined, falls-never-at, none-twice-joined, IsSet, Replays, replays-none, replays-joined}
 use Rattle.table.proofs.Order.Replay.{told-says, told-stays, insert-adds, delete-removes}
 
@@ -26,13 +26,13 @@ some-some : {A : Type 0} (x : Option A) (a b : A) → x ≡ some a → x ≡ som
 some-some x a b p q = cc
 
 -- an answer that leaves the set as it is is no fail, and of an insert or a delete it is false
-told-not-fail : (k : Kind) (v : ℕ) (P : Type 0) → Tells k v P → v ≢ Fail
+told-not-fail : (k : Kind) (v : ℕ) (P : Type 0) → AnswerTells k v P → v ≢ Fail
 told-not-fail insert v P z q = absurd (omega (arith, z .0))
 told-not-fail delete v P z q = absurd (omega (arith, z .0))
 told-not-fail find v P (inl z) q = absurd (omega (arith, z .0))
 told-not-fail find v P (inr z) q = absurd (omega (arith, z .0))
 
-told-not-true : (k : Kind) (v : ℕ) (P : Type 0) → (k ≡ insert) ⊎ (k ≡ delete) → Tells k v P → v ≢ True
+told-not-true : (k : Kind) (v : ℕ) (P : Type 0) → (k ≡ insert) ⊎ (k ≡ delete) → AnswerTells k v P → v ≢ True
 told-not-true insert v P e z q = absurd (omega (arith, z .0))
 told-not-true delete v P e z q = absurd (omega (arith, z .0))
 told-not-true find v P (inl e) z q = let n : _≡_ {A = ℕ} 0 1 = cc in absurd (omega arith)
@@ -315,7 +315,7 @@ module _ (H : History) (S : Supplies H) where
       o : Operation
       o = x .operation
 
-      told : x .witness .moment ≡ w → Tells (x .operation .kind) (x .answer .value) (S .held w (x .operation .address))
+      told : x .witness .moment ≡ w → AnswerTells (x .operation .kind) (x .answer .value) (S .held w (x .operation .address))
       told e = rw e at (x .witness .tells)
 
   readers-replay : (k w : ℕ) (s : Set) → IsSet s (S .held w) → Replays s (readers k w) (S .held w)

@@ -12,7 +12,7 @@ use Rattle.record.specs.Record.{True}
 use Rattle.record.specs.declared.Address.{Address}
 use Rattle.table.specs.History.{Kind, insert, delete, find, Set, Slot, NeverFalls, NoneTwice, says, becomes, worked, SameAnswers}
 use Rattle.basics.proofs.Tests.{not-true-false}
-use Rattle.table.proofs.Order.Needs.{Tells}
+use Rattle.table.proofs.Order.Needs.{AnswerTells}
 
 -- ---- lists of slots, joined
 
@@ -91,7 +91,7 @@ module _ (s : Set) (a : Address) where
     out : (P a → ⊥) → s a ≡ false
     out h = not-true-false (s a) (λ q. h (is a .0 q))
 
-    pub told-says : (k : Kind) (v : ℕ) → Tells k v (P a) → v ≡ says k a s
+    pub told-says : (k : Kind) (v : ℕ) → AnswerTells k v (P a) → v ≡ says k a s
     told-says insert v z = z .0 ∙ (rw (is a .1 (z .1)) refl)
     told-says delete v z = z .0 ∙ (rw (out (z .1)) refl)
     told-says find v (inl z) = z .0 ∙ (rw (is a .1 (z .1)) refl)
@@ -101,7 +101,7 @@ module _ (s : Set) (a : Address) where
     same-address x q = subst P (λ i. record { 0 = sym q i })
 
     -- an answer that leaves the set as it is does so
-    pub told-stays : (k : Kind) (v : ℕ) → Tells k v (P a) → IsSet (becomes k a s) P
+    pub told-stays : (k : Kind) (v : ℕ) → AnswerTells k v (P a) → IsSet (becomes k a s) P
     told-stays insert v z x = (
       (λ q. elim (in-inserted x .0 q) [ inl e ↦ same-address x e (z .1) | inr e ↦ is x .0 e ]),
       (λ q. in-inserted x .1 (inr (is x .1 q))),

@@ -18,8 +18,8 @@ use Rattle.table.specs.History.{Kind, insert, delete, find, Answer, Oper
 use Rattle.table.specs.History.{SameAnswers, Order}
 
 -- the set after a slot
-abbrev pub after : Slot → Set → Set
-after x s = becomes (x .operation .kind) (x .operation .address) s
+abbrev pub setAfter : Slot → Set → Set
+setAfter x s = becomes (x .operation .kind) (x .operation .address) s
 
 -- ---- an operation that failed does not stand in an order
 
@@ -39,7 +39,7 @@ finds-nothing : (s : Set) (l : List Slot) → ((x : Address) → s x ≡ false) 
 finds-nothing s [] e n z u v m k h t = List·Memᴰ·not-nil m
 finds-nothing s (x ∷ l) e n z u v m k h t = elim (List·Memᴰ·cases-cons m) [
   | inl q ↦ absurd (omega (arith, here q))
-  | inr m′ ↦ finds-nothing (after x s) l (empty-stays (x .operation .kind) (x .operation .address) s (n x (List·Memᴰ·head refl)) e)
+  | inr m′ ↦ finds-nothing (setAfter x s) l (empty-stays (x .operation .kind) (x .operation .address) s (n x (List·Memᴰ·head refl)) e)
       (λ y i. n y (List·Memᴰ·tail i)) (z .1) u v m′ k h t
 ]
   where
@@ -64,22 +64,22 @@ in-stays find a b s n e = e
 
 all-stay : (a : Address) (s : Set) (l : List Slot) → ((u : Slot) → List·Memᴰ u l → u .operation .kind ≢ delete) → s a ≡ true → worked s l a ≡ true
 all-stay a s [] n e = e
-all-stay a s (x ∷ l) n e = all-stay a (after x s) l (λ u m. n u (List·Memᴰ·tail m))
+all-stay a s (x ∷ l) n e = all-stay a (setAfter x s) l (λ u m. n u (List·Memᴰ·tail m))
     (in-stays (x .operation .kind) a (x .operation .address) s (n x (List·Memᴰ·head refl)) e)
 
 inserted-ends-in : (s : Set) (l : List Slot) → ((u : Slot) → List·Memᴰ u l → u .operation .kind ≢ delete)
     → (u : Slot) → List·Memᴰ u l → u .operation .kind ≡ insert → worked s l (u .operation .address) ≡ true
 inserted-ends-in s [] n u m k = absurd (List·Memᴰ·not-nil m)
 inserted-ends-in s (x ∷ l) n u m k = elim (List·Memᴰ·cases-cons m) [
-  | inl q ↦ all-stay (u .operation .address) (after x s) l n′ (here q)
-  | inr m′ ↦ inserted-ends-in (after x s) l n′ u m′ k
+  | inl q ↦ all-stay (u .operation .address) (setAfter x s) l n′ (here q)
+  | inr m′ ↦ inserted-ends-in (setAfter x s) l n′ u m′ k
 ]
   where
     n′ : (u : Slot) → List·Memᴰ u l → u .operation .kind ≢ delete
     n′ y i = n y (List·Memᴰ·tail i)
 
-    here : u ≡ x → after x s (u .operation .address) ≡ true
-    here q = subst (λ y. after y s (u .operation .address) ≡ true) q (rw (k, eq-eqb (u .operation .address .0) (u .operation .address .0) refl) refl)
+    here : u ≡ x → setAfter x s (u .operation .address) ≡ true
+    here q = subst (λ y. setAfter y s (u .operation .address) ≡ true) q (rw (k, eq-eqb (u .operation .address .0) (u .operation .address .0) refl) refl)
 
 pub inserted-is-held-at-the-end : (H : History) → ((r : ℕ) (o : Operation) → H .asked r ≡ some o → o .kind ≢ delete)
     → (r : ℕ) (o : Operation) (v : Answer) → H .asked r ≡ some o → o .kind ≡ insert → o .answer ≡ some v → v .value ≡ True → Order H
@@ -138,7 +138,7 @@ takes-one find a s t = omega arith
 balance : (a : Address) (s : Set) (l : List Slot) → ((u : Slot) → List·Memᴰ u l → TrueOf a (u .operation)) → SameAnswers s l
     → count deletes l ≤ bit (s a) + count inserts l
 balance a s [] t z = omega arith
-balance a s (x ∷ l) t z = omega (arith, balance a (after x s) l (λ u m. t u (List·Memᴰ·tail m)) (z .1), one)
+balance a s (x ∷ l) t z = omega (arith, balance a (setAfter x s) l (λ u m. t u (List·Memᴰ·tail m)) (z .1), one)
   where
     of : TrueOf a (x .operation)
     of = t x (List·Memᴰ·head refl)

@@ -1,7 +1,7 @@
 -- Byte after byte of the word, the first lowest. Rests on Lanes and Puts.
 use native.Mathlib.Omega.{arith}
 use lib.ListN.{length-set}
-use Rattle.text.proofs.Lanes.{bytesOf, bytes-spelt}
+use Rattle.text.proofs.Lanes.{laneBytes, bytes-spelt}
 use Rattle.text.proofs.Puts.{put-stored}
 use borrow.Author.Needs.{needs}
 use Rattle.text.proofs.put_eight.Statement.{statement}
@@ -65,7 +65,7 @@ returns : tie.Need-returns
 returns c =
     let a = c .before .before .args in
     let w = c .spelt .result in
-    rw (← bytes-spelt (a .n) w (omega arith) (c .spelt .ensures)) (put-stored (bytesOf w) (a .part .now) (omega arith))
+    rw (← bytes-spelt (a .n) w (omega arith) (c .spelt .ensures)) (put-stored (laneBytes w) (a .part .now) (omega arith))
 
 pub put-eight-spec : {M : Type 1} → statement M
 put-eight-spec =

@@ -1,13 +1,13 @@
 -- Each record takes no more bytes than its fields do. The measure is how many records are left. Assumes nothing.
 use Prim.Native.Nat.{_+_, _*_, _-_, _≤_}
-use Rattle.cases.specs.Block.{Gathered, lastEnd, recordBytes, rowBytes}
+use Rattle.cases.specs.Block.{Gathered, lastEnd, recordRoom, rowRoom}
 use borrow.Author.Needs.{needs}
 use Rattle.cases.proofs.writing.gather_records.Statement.{statement}
 use Rattle.cases.proofs.writing.gather_records.Tie as tie
 
 abbrev Inv-loop : tie.InvT-loop
 Inv-loop block₀ used records end₀ i₀ i-end block end i =
-    Gathered block end (used + i * recordBytes) × ((used + rowBytes ≤ lastEnd) × ((i-end ≤ 64) × (i ≤ i-end)))
+    Gathered block end (used + i * recordRoom) × ((used + rowRoom ≤ lastEnd) × ((i-end ≤ 64) × (i ≤ i-end)))
 
 abbrev μ-loop : tie.MeasureT-loop
 μ-loop block₀ used records end₀ i₀ i-end block end i = i-end - i

@@ -2,14 +2,14 @@
 use mathlib.Core.Path.{_≡_}
 use Prim.Native.Nat.{_+_, _-_, _≤_}
 use lib.ListN.{length}
-use Rattle.cases.specs.Block.{Gathered, lastEnd, wordsBytes}
+use Rattle.cases.specs.Block.{Gathered, lastEnd, wordsRoom}
 use borrow.Author.Needs.{needs}
 use Rattle.cases.proofs.writing.gather_words.Statement.{statement}
 use Rattle.cases.proofs.writing.gather_words.Tie as tie
 
 abbrev Inv-loop : tie.InvT-loop
 Inv-loop block₀ used words end₀ i₀ i-end block end i =
-    Gathered block end (used + wordsBytes i) × ((used + wordsBytes i-end ≤ lastEnd) × ((i-end ≡ length words) × (i ≤ i-end)))
+    Gathered block end (used + wordsRoom i) × ((used + wordsRoom i-end ≤ lastEnd) × ((i-end ≡ length words) × (i ≤ i-end)))
 
 abbrev μ-loop : tie.MeasureT-loop
 μ-loop block₀ used words end₀ i₀ i-end block end i = i-end - i

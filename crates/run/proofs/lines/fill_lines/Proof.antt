@@ -23,7 +23,7 @@ use Rattle.run.proofs.lines.fill_lines.Statement.{statement}
 use Rattle.run.proofs.lines.fill_lines.Tie as tie
 
 -- what the loop keeps
-record Keeps (T : Type 0) (block block₀ at row : ℕ) (R : Type 0) : Type 0 where
+record LoopKeeps (T : Type 0) (block block₀ at row : ℕ) (R : Type 0) : Type 0 where
   tables : T
   block-is : block ≡ block₀
   within : at ≤ block
@@ -34,7 +34,7 @@ abbrev Inv-loop : tie.InvT-loop
 Inv-loop file addresses₀ links₀ deleters₀ block₀ row₀ cursor₀ sizes₀ number₀ at₀ addresses links deleters block row cursor sizes number at =
     let m₀ = lentMemory addresses₀ links₀ deleters₀ sizes₀ in
     let m = lentMemory addresses links deleters sizes in
-    Keeps (TablesKept m₀ m) (length block) (length block₀) at (length row)
+    LoopKeeps (TablesKept m₀ m) (length block) (length block₀) at (length row)
     (FillsTo (nextPiece file) (world m (runOf Acting cursor sizes number row)) block at
     (fills file (world m₀ (runOf Acting cursor₀ sizes₀ number₀ row₀)) block₀))
 
