@@ -48,20 +48,6 @@ module _ (bytes block part : List ℕ) (at count : ℕ) (inside : at ≤ length 
       → Grows bytes block (putMid at (length block - at) block part) at (at + count)
   grows-into room e = grows (e ∙ roomy bytes _ (omega (arith, length-rest block at)))
 
--- at the start of a block
-pub grows-first : (bytes block block′ : List ℕ) (count : ℕ) → 1 ≤ length bytes → 64 ≤ length block → length block′ ≡ length block → count ≤ 64
-    → put block′ count ≡ putInto bytes block → Grows bytes block block′ 0 count
-grows-first bytes block block′ count some room same few e =
-    let text = e ∙ roomy bytes block (omega arith) in
-    let counted : count ≡ length bytes = (λ i. text i .count) in
-    record {
-      laid-is = λ i. text i .part;
-      at-is = omega (arith, counted);
-      same-length = same;
-      within = omega (arith, same);
-      less = omega (arith, same, counted);
-    }
-
 -- ---- a turn of filling
 
 -- filling on from here comes to the whole

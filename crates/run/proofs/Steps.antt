@@ -2,11 +2,11 @@
 -- what the walk was told (the chain's Walks).
 use Prim.Native.Nat.{ℕ, suc, _-_, _<_, _≤_}
 use mathlib.Core.List.{List, [], _∷_}
-use mathlib.Core.Bool.{Bool, false, false≢true}
-use mathlib.Core.Path.{_≡_, refl, ap, sym, _∙_}
+use mathlib.Core.Bool.{Bool, true, false, false≢true}
+use mathlib.Core.Path.{_≡_, refl, ap, sym, _∙_, subst}
 use mathlib.Core.Logic.{_⊎_, ⊎-elim}
 use native.Mathlib.Omega.{arith}
-use borrow.Author.Tests.{lt-ltb}
+use borrow.Author.Tests.{lt-ltb, ltb-true, ltb-false}
 use lib.ListN.{length, length-append, getD, set}
 use lib.Seq.{set-getD}
 use denote.Enum.Declared.{tagOf}
@@ -20,12 +20,13 @@ use Rattle.record.specs.declared.Action.{Action}
 use Rattle.record.specs.declared.Record.{Record}
 use Rattle.record.specs.declared.Outcome.{Outcome}
 use Rattle.record.specs.declared.Outcome.the-variants as outcome
-use Rattle.table.specs.Words.{Memory}
+use Rattle.table.specs.Words.{Memory, addresses≔, links≔}
 use Rattle.table.specs.Events.{State, Left, leaving, act, event, stored, recordIn, Leaves}
 use Rattle.table.proofs.Laws.Events.{refused-act-changes-nothing}
 use Rattle.table.proofs.Laws.Fitting.{limits}
 use Rattle.table.proofs.Laws.Meets.{event-by-slot}
 use Rattle.words.specs.LentMemory.{sized}
+use Rattle.words.specs.declared.Sizes.{Sizes}
 use Rattle.words.specs.LentWords.{slotOf}
 use Rattle.list.specs.Acting.{left}
 use Rattle.list.specs.declared.Acted.{Acted}
@@ -44,14 +45,15 @@ use Rattle.chain.specs.declared.Ahead.{Ahead}
 use Rattle.chain.specs.declared.Ahead.the-variants as ahead
 use Rattle.chain.proofs.Walks.{Stops, told-next, told-stops}
 use Rattle.text.specs.Text.{line, decimal, space, newline}
+use Rattle.text.specs.Put.{put, putInto}
+use Rattle.text.proofs.Lengths.{line-some}
 use Rattle.run.specs.declared.Phase.{Phase}
 use Rattle.run.specs.declared.Phase.the-variants.{Refusing, Acting, Walking, Over}
 use Rattle.run.specs.declared.Run.{Run}
-use Rattle.run.proofs.Phase as phase-type
-use Rattle.run.specs.Filling.{NextPiece, piece, nothing, stop, fillFrom}
+use Rattle.run.specs.Filling.{piece, nothing, stop, fillFrom}
 use Rattle.run.specs.Pieces.{World, world, runOf, memoryOf, tableOf, inPhase, nextNumber, wentOn, toWalk}
 use Rattle.run.specs.Pieces.{eventNext, putAhead, addressNext, nextPiece, fills, refusing, startOf, begins}
-use Rattle.run.specs.PrivatePromises.{Ready, stoppedText, lastText}
+use Rattle.run.specs.PrivatePromises.{Ready, Comes, stopsAt, PutsNext, stoppedText, lastText}
 use Rattle.run.proofs.Fills.{FillsTo, full, at-end}
 
 -- ---- the record of an event's process, in a row of 64
@@ -196,18 +198,67 @@ pub from-start : (file : List ℕ) (w : World) (block : List ℕ) → FillsTo (n
 unfolding fills
 from-start file w block = record { turns = suc (length block); enough = omega arith; same = refl }
 
--- where no line is to be put, a run that does not walk stops
-abbrev NotWalking : Phase → Type 0
-NotWalking phase = let tag = tagOf phase-type.the-type phase in (tag ≡ 0) ⊎ ((tag ≡ 1) ⊎ (tag ≡ 3))
-
-pub not-walking : (file : List ℕ) (w : World) (block : List ℕ) (at turns : ℕ) → NotWalking (w .run .phase)
-    → Ready (w .run .phase) (length block - at) → stop w block at ≡ fillFrom (nextPiece file) turns w block at
-not-walking file w block at turns tag ready = by (w .run .phase) refl tag ready
+-- without room for a piece, or with none left, filling stops
+pub stops-here : (file : List ℕ) (w : World) (block : List ℕ) (at turns : ℕ) → stopsAt (length block - at) (w .run .phase) ≡ true
+    → stop w block at ≡ fillFrom (nextPiece file) turns w block at
+stops-here file w block at turns told = by (w .run .phase) refl told
   where
-    by : (phase : Phase) → w .run .phase ≡ phase → NotWalking phase → Ready phase (length block - at)
+    by : (phase : Phase) → w .run .phase ≡ phase → stopsAt (length block - at) phase ≡ true
         → stop w block at ≡ fillFrom (nextPiece file) turns w block at
-    by (Refusing n) e t r = full (nextPiece file) w block at turns r
-    by Acting e t r = full (nextPiece file) w block at turns r
-    by (Walking n) e t r =
-        absurd (⊎-elim (λ (p : 2 ≡ 0). omega arith) (⊎-elim (λ (p : 2 ≡ 1). omega arith) (λ (p : 2 ≡ 3). omega arith)) t)
-    by Over e t r = at-end (nextPiece file) w block at turns (over-nothing file w e)
+    by (Refusing n) e t = full (nextPiece file) w block at turns (ltb-true _ _ t)
+    by Acting e t = full (nextPiece file) w block at turns (ltb-true _ _ t)
+    by (Walking n) e t = full (nextPiece file) w block at turns (ltb-true _ _ t)
+    by Over e t = at-end (nextPiece file) w block at turns (over-nothing file w e)
+
+-- otherwise there is room, and a piece comes, where no event is left for it
+pub still-comes : (room : ℕ) (phase : Phase) → stopsAt room phase ≡ false → Ready phase room → (64 ≤ room) × Comes phase
+still-comes room (Refusing n) told ready = (ltb-false _ _ told, tt)
+still-comes room Acting told ready = absurd (let h : 64 ≤ room = ltb-false _ _ told in omega arith)
+still-comes room (Walking n) told ready = (ltb-false _ _ told, tt)
+still-comes room Over told ready = absurd (false≢true (sym told))
+
+-- ---- the pieces that no event puts
+
+pub no-event-comes : (phase : Phase) → Comes phase → phase ≡ Acting → ⊥
+no-event-comes phase comes is = subst Comes is comes
+
+pub nothing-comes : (phase : Phase) → Comes phase → phase ≡ Over → ⊥
+nothing-comes phase comes is = subst Comes is comes
+
+-- a phase may be known by another name
+pub next-known : (addresses links : List ℕ) (sizes : Sizes) (phase known : Phase) (part left : List ℕ) (count : ℕ) (after : Phase) → phase ≡ known
+    → PutsNext addresses links sizes known part left count after → PutsNext addresses links sizes phase part left count after
+next-known addresses links sizes phase known part left count after is so =
+    subst (λ x. PutsNext addresses links sizes x part left count after) (sym is) so
+
+module _ (part left : List ℕ) (count : ℕ) where
+  pub refusal-put : (addresses links : List ℕ) (sizes : Sizes) (phase : Phase) (number : ℕ) → phase ≡ Refusing number
+      → put left count ≡ putInto (line 0 (outcome.Refused number)) part → PutsNext addresses links sizes phase part left count Over
+  refusal-put addresses links sizes phase number is placed file m cursor n row = record {
+    bytes = line 0 (outcome.Refused number);
+    comes = refusal-piece file _ number is;
+    some = line-some 0 (outcome.Refused number);
+    placed = placed;
+    ready = λ room. tt;
+  }
+
+  module _ (addresses links : List ℕ) (sizes : Sizes) (n : Node) (x : Ahead)
+      (told : (m : Memory) → x ≡ aheadFrom (sized sizes (links≔ links (addresses≔ addresses m))) n) where
+    pub address-put : (next : Node) (a : Address) → x ≡ ahead.Next next a → put left count ≡ putInto (space ∷ decimal (a .0)) part
+        → PutsNext addresses links sizes (Walking n) part left count (Walking next)
+    address-put next a is placed file m cursor number row = record {
+      bytes = space ∷ decimal (a .0);
+      comes = onto-piece _ file n refl x (told m) next a is;
+      some = omega arith;
+      placed = placed;
+      ready = λ room. tt;
+    }
+
+    pub newline-put : Stops x → put left count ≡ putInto (newline ∷ []) part → PutsNext addresses links sizes (Walking n) part left count Over
+    newline-put stops placed file m cursor number row = record {
+      bytes = newline ∷ [];
+      comes = end-piece _ file n refl x (told m) stops;
+      some = omega arith;
+      placed = placed;
+      ready = λ room. tt;
+    }

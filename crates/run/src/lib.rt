@@ -1,28 +1,24 @@
 // 01's run program: from the bytes of a schedule file to lines of text, block after block. Rests on the reader, the list and the text.
-mod keys;
 mod lines;
+mod rest;
 
 ghost use mathlib.Core.Path.{_≡_};
-ghost use mathlib.Core.List.{List};
-ghost use Prim.Native.Nat.{ℕ, _≤_, _-_};
+ghost use Prim.Native.Nat.{_≤_, _-_};
 ghost use lib.ListN.{length};
-ghost use Rattle.table.specs.Words.{Memory};
 ghost use Rattle.words.specs.LentMemory.{lentMemory};
 ghost use Rattle.schedule.specs.Cursors.{start, headerAt};
-ghost use Rattle.run.specs.declared.Phase.the-variants.{Refusing};
 ghost use Rattle.run.specs.Filling.{stop};
 ghost use Rattle.run.specs.Pieces.{world, phase≔, fills, unstated, refusing, startOf, begins};
 ghost use Rattle.run.specs.PrivatePromises.{LeftOff, Ready};
 use fresh::Made;
 use fresh::fresh_tables;
-use keys::fill_keys;
 use lines::fill_lines;
 use record::Node;
 use record::Record;
+use rest::fill_rest;
 use schedule::Cursor;
 use schedule::HeaderRead;
 use schedule::read_header;
-use text::put_refusal;
 use words::Sizes;
 
 // What a run does next: it says why its header was refused, acts on events, walks on along the chain from a node, or is over.
@@ -128,23 +124,7 @@ pub fn begin(file: &[u8], addresses: &mut [u32], links: &mut [u32], deleters: &m
     }
 }
 
-// The line of a refused header.
-fn fill_refusal(block: &mut [u8], run: Run, number: u8) -> Filled
-    requires { ⌜ run .phase ≡ Refusing number ⌝ }
-    ensures { λ r. ⌜ ((file : List ℕ) (m : Memory) →
-        LeftOff file (world m run) (now (block .entry)) (world m (r .run)) (now (block .exit)) (r .count)) ⌝ }
-    ensures { λ r. ⌜ r .count ≤ length (now (block .exit)) ⌝ }
-    ensures { λ r. ⌜ Ready (r .run .phase) (length (now (block .exit)) - r .count) ⌝ }
-{
-    if block.len() < 64 {
-        return Filled { count: 0, run };
-    }
-    let count = put_refusal(block, 0, number);
-    let over = run.in_phase(Phase::Over);
-    Filled { count, run: over }
-}
-
-// What comes before the addresses of the last line.
+// The lines of events, where the run has come to them.
 fn fill_first(
     file: &[u8],
     addresses: &mut [u32],
@@ -162,7 +142,7 @@ fn fill_first(
 {
     let phase = run.phase;
     match phase {
-        Phase::Refusing(number) => fill_refusal(block, run, number),
+        Phase::Refusing(_) => Filled { count: 0, run },
         Phase::Acting => fill_lines(file, addresses, links, deleters, block, run),
         Phase::Walking(_) => Filled { count: 0, run },
         Phase::Over => Filled { count: 0, run },
@@ -189,5 +169,5 @@ pub fn fill(
     let first = fill_first(file, addresses, links, deleters, block, run);
     let count = first.count;
     let on = first.run;
-    fill_keys(addresses, links, block, count, on)
+    fill_rest(addresses, links, block, count, on)
 }
