@@ -43,7 +43,7 @@ outcomeOf (suc refusal) answer = Refused (suc refusal)
 abbrev pub accepted : Outcome
 accepted = outcomeOf 0 none
 
--- a refusal, with "nothing changed"; any other event is accepted, with an answer or without
+-- whether an event was accepted, with an answer or without; where it was refused, "nothing changed"
 abbrev pub isAccepted : Outcome → Bool
 isAccepted (Refused n) = false
 isAccepted Accepted = true

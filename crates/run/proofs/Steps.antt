@@ -53,7 +53,7 @@ use Rattle.run.specs.declared.Run.{Run}
 use Rattle.run.specs.Filling.{piece, nothing, stop, fillFrom}
 use Rattle.run.specs.Pieces.{World, world, runOf, memoryOf, tableOf, inPhase, nextNumber, wentOn, toWalk}
 use Rattle.run.specs.Pieces.{eventNext, putAhead, addressNext, nextPiece, fills, refusing, startOf, begins}
-use Rattle.run.specs.PrivatePromises.{Ready, Comes, stopsAt, PutsNext, stoppedText, lastText}
+use Rattle.run.specs.PrivatePromises.{Ready, HasPiece, stopsAt, PutsNext, stoppedText, lastText}
 use Rattle.run.proofs.Fills.{FillsTo, full, at-end}
 
 -- ---- the record of an event's process, in a row of 64
@@ -211,7 +211,7 @@ stops-here file w block at turns told = by (w .run .phase) refl told
     by Over e t = at-end (nextPiece file) w block at turns (over-nothing file w e)
 
 -- otherwise there is room, and a piece comes, where no event is left for it
-pub still-comes : (room : ℕ) (phase : Phase) → stopsAt room phase ≡ false → Ready phase room → (64 ≤ room) × Comes phase
+pub still-comes : (room : ℕ) (phase : Phase) → stopsAt room phase ≡ false → Ready phase room → (64 ≤ room) × HasPiece phase
 still-comes room (Refusing n) told ready = (ltb-false _ _ told, tt)
 still-comes room Acting told ready = absurd (let h : 64 ≤ room = ltb-false _ _ told in omega arith)
 still-comes room (Walking n) told ready = (ltb-false _ _ told, tt)
@@ -219,13 +219,10 @@ still-comes room Over told ready = absurd (false≢true (sym told))
 
 -- ---- the pieces that no event puts
 
-pub no-event-comes : (phase : Phase) → Comes phase → phase ≡ Acting → ⊥
-no-event-comes phase comes is = subst Comes is comes
-
-pub nothing-comes : (phase : Phase) → Comes phase → phase ≡ Over → ⊥
-nothing-comes phase comes is = subst Comes is comes
-
 -- a phase may be known by another name
+pub piece-known : (phase known : Phase) → phase ≡ known → HasPiece phase → HasPiece known
+piece-known phase known is has = subst HasPiece is has
+
 pub next-known : (addresses links : List ℕ) (sizes : Sizes) (phase known : Phase) (part left : List ℕ) (count : ℕ) (after : Phase) → phase ≡ known
     → PutsNext addresses links sizes known part left count after → PutsNext addresses links sizes phase part left count after
 next-known addresses links sizes phase known part left count after is so =

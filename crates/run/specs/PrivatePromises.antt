@@ -45,12 +45,12 @@ Ready Acting room = room < 64
 Ready (Walking n) room = Unit
 Ready Over room = Unit
 
--- a piece comes without an event
-abbrev pub Comes : Phase → Type 0
-Comes (Refusing n) = Unit
-Comes Acting = ⊥
-Comes (Walking n) = Unit
-Comes Over = ⊥
+-- a phase that has a piece of its own, which no event puts
+abbrev pub HasPiece : Phase → Type 0
+HasPiece (Refusing n) = Unit
+HasPiece Acting = ⊥
+HasPiece (Walking n) = Unit
+HasPiece Over = ⊥
 
 -- filling stops: no room for a piece, or none is left
 abbrev pub stopsAt : (room : ℕ) → Phase → Bool

@@ -13,7 +13,7 @@ ghost use mathlib.Core.Path.{_≡_};
 ghost use Prim.Native.Nat.{_≤_, _-_};
 ghost use lib.ListN.{length};
 ghost use Rattle.run.specs.declared.Phase.the-variants.{Walking};
-ghost use Rattle.run.specs.PrivatePromises.{FilledOn, Ready, Comes, PutsNext, stopsAt};
+ghost use Rattle.run.specs.PrivatePromises.{FilledOn, Ready, HasPiece, PutsNext, stopsAt};
 
 // A piece that was put: its bytes, and the phase after it.
 struct Added {
@@ -43,7 +43,7 @@ fn put_ahead(addresses: &[u32], links: &[u32], sizes: Sizes, part: &mut [u8], no
 
 // The next piece, by the phase.
 fn put_next(addresses: &[u32], links: &[u32], sizes: Sizes, part: &mut [u8], phase: Phase) -> Added
-    requires { ⌜ Comes phase ⌝ }
+    requires { ⌜ HasPiece phase ⌝ }
     ensures { λ r. ⌜ PutsNext (now (addresses .entry)) (now (links .entry)) sizes phase (now (part .entry)) (now (part .exit)) (r .count) (r .phase) ⌝ }
     ensures { λ r. ⌜ r .count ≤ 30 ⌝ }
 {

@@ -9,7 +9,7 @@ use borrow.Author.Needs.{needs}
 use Rattle.table.specs.Words.{Memory, addresses≔, links≔, freshMemory}
 use Rattle.run.specs.Filling.{fillFrom}
 use Rattle.run.specs.Pieces.{World, world, phase≔, nextPiece}
-use Rattle.run.specs.PrivatePromises.{Ready, Comes, PutNext}
+use Rattle.run.specs.PrivatePromises.{Ready, HasPiece, PutNext}
 use Rattle.run.proofs.Fills.{Grows, FillsTo, grows-into, onward}
 use Rattle.run.proofs.Steps.{stops-here, still-comes}
 use Rattle.run.proofs.rest.fill_rest.Statement.{statement}
@@ -35,7 +35,7 @@ abbrev μ-loop : tie.MeasureT-loop
 -- ---- where the facts stand
 
 -- there is room, and a piece comes
-goes-on : (c : tie.Else1 Inv-loop μ-loop) → let l = c .before .before .loop in (64 ≤ length (l .block) - l .at) × Comes (l .phase)
+goes-on : (c : tie.Else1 Inv-loop μ-loop) → let l = c .before .before .loop in (64 ≤ length (l .block) - l .at) × HasPiece (l .phase)
 goes-on c =
     let told = c .before in
     let l = told .before .loop in

@@ -1,6 +1,7 @@
 -- One piece for each phase in which one comes without an event. Rests on Steps.
-use Rattle.run.proofs.Steps.{refusal-put, next-known, no-event-comes, nothing-comes}
+use Rattle.run.proofs.Steps.{refusal-put, next-known, piece-known}
 use borrow.Author.Needs.{needs}
+use Rattle.run.specs.declared.Phase.the-variants.{Acting, Over}
 use Rattle.run.proofs.rest.put_next.Statement.{statement}
 use Rattle.run.proofs.rest.put_next.Tie as tie
 
@@ -37,12 +38,12 @@ returns-2 c = search (needs, next-known)
 returns-3 : tie.Need-returns-3
 returns-3 c =
     let match = c .before .before in
-    absurd (no-event-comes _ (match .before .before .before .pre) (c .enum-told .given .1))
+    absurd (piece-known _ Acting (c .enum-told .given .1) (match .before .before .before .pre))
 
 returns-4 : tie.Need-returns-4
 returns-4 c =
     let match = c .before .before in
-    absurd (nothing-comes _ (match .before .before .before .pre) (c .enum-told2 .given .1))
+    absurd (piece-known _ Over (c .enum-told2 .given .1) (match .before .before .before .pre))
 
 pub put-next-spec : {M : Type 1} → statement M
 put-next-spec =
