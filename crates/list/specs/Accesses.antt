@@ -1,7 +1,6 @@
 -- What the accesses of the rows promise, spelt with the list's types: the place table's fields, links and words. A reader of the public promises needs
 -- none of this. Rests on the table's Steps and the words' LentWords.
 use Rattle.std.specs.Prelude.{Bool, true, false, cond, ◌&&◌, List, ℕ, eqb, set}
-use Rattle.record.specs.Record.{none_met, met_at}
 use Rattle.record.specs.declared.Process.{Process}
 use Rattle.record.specs.declared.Record.{Record}
 use Rattle.table.specs.Words.{Memory, deleter_at, in_use, no_deleter, deleter_word}
@@ -54,26 +53,26 @@ link_written m r f new =
 
 -- ---- swaps
 
--- the table afterwards, and what the swap answers
+-- the table afterwards, and what the swap met
 pub record AccessLeft : Type 0 where
   pub words : List ℕ
-  pub answer : SwapMet
+  pub met : SwapMet
 
 abbrev pub access_left : List ℕ → SwapMet → AccessLeft
-access_left words answer = record { words = words; answer = answer }
+access_left words met = record { words = words; met = met }
 
 -- a swap that was made, and one that was not
-abbrev pub swap_made : (met : ℕ) → SwapLeft → AccessLeft
-swap_made met x = access_left x.words (record { accepted = true; wrote = x.answer.wrote; met = met; found = x.answer.found })
+abbrev pub swap_made : SwapLeft → AccessLeft
+swap_made x = access_left x.words (record { accepted = true; wrote = x.answer.wrote; found = x.answer.found })
 
 abbrev pub no_swap : SwapMet
-no_swap = record { accepted = false; wrote = false; met = none_met; found = 0 }
+no_swap = record { accepted = false; wrote = false; found = 0 }
 
 unfoldable pub link_swap : Memory → Record → Field → (old new : Link) → AccessLeft
 link_swap m r f old new =
     cond (usable (in_use m) r f && usable (in_use m) r (field_of old) && usable (in_use m) r (field_of new))
-    (swap_made (met_at (node_of r f)) (swap_of m.links (node_of r f) (link_of r old) (link_of r new))) (access_left m.links no_swap)
+    (swap_made (swap_of m.links (node_of r f) (link_of r old) (link_of r new))) (access_left m.links no_swap)
 
 unfoldable pub deleter_swap : Memory → Process → Record → Field → AccessLeft
 deleter_swap m p r f =
-    cond (usable (in_use m) r f) (swap_made none_met (swap_of m.deleters (node_of r f) no_deleter (deleter_word p))) (access_left m.deleters no_swap)
+    cond (usable (in_use m) r f) (swap_made (swap_of m.deleters (node_of r f) no_deleter (deleter_word p))) (access_left m.deleters no_swap)

@@ -30,13 +30,12 @@ pub(crate) struct DeleterRead {
     pub(crate) mine: bool,
 }
 
-// What a swap meets: whether it is accepted, whether it wrote, the number of the node whose link it was and one, 0 for a deleter, and the word found.
+// What a swap meets: whether it is accepted, whether it wrote, and the word found.
 #[derive(Drop)]
 pub(crate) struct SwapMet {
-    pub(crate) met: u32,
-    pub(crate) found: u32,
     pub(crate) accepted: bool,
     pub(crate) wrote: bool,
+    pub(crate) found: u32,
 }
 
 // The deleter word of a process.
@@ -129,15 +128,14 @@ pub(crate) fn write_link(links: &mut [u32], sizes: Sizes, old: Record, at: Field
 }
 
 // A swap of a node's word that is accepted.
-fn swap_at(words: &mut [u32], n: Node, expected: u32, new: u32, met: u32) -> SwapMet
-    ensures { access_left words.new result ≡ swap_made met (swap_of words.old n expected new) }
+fn swap_at(words: &mut [u32], n: Node, expected: u32, new: u32) -> SwapMet
+    ensures { access_left words.new result ≡ swap_made (swap_of words.old n expected new) }
 {
     let swap = words::swap(words, n, expected, new);
     SwapMet {
-        met,
-        found: swap.found,
         accepted: true,
         wrote: swap.wrote,
+        found: swap.found,
     }
 }
 
@@ -146,10 +144,9 @@ fn no_swap() -> SwapMet
     ensures { result ≡ no_swap }
 {
     SwapMet {
-        met: 0,
-        found: 0,
         accepted: false,
         wrote: false,
+        found: 0,
     }
 }
 
@@ -173,8 +170,7 @@ pub(crate) fn swap_link(
     if accepted {
         let expected = words::link_word(node_of(old, from), false);
         let new = words::link_word(node_of(old, to), mark);
-        let n = node_of(old, at);
-        return swap_at(links, n, expected, new, n.0 + 1);
+        return swap_at(links, node_of(old, at), expected, new);
     }
     no_swap()
 }
@@ -194,7 +190,7 @@ pub(crate) fn swap_deleter(
 {
     if usable(links, sizes, old, field) {
         let new = deleter_word(p);
-        return swap_at(deleters, node_of(old, field), 0, new, 0);
+        return swap_at(deleters, node_of(old, field), 0, new);
     }
     no_swap()
 }

@@ -46,13 +46,7 @@ pub(crate) fn row_7(links: &mut [u32], sizes: Sizes, old: Record) -> Acted
         Field::Succ,
         true,
     );
-    answers::swapped(
-        swap,
-        sizes,
-        old,
-        old.goes(6),
-        old.loses(swap.met, swap.found, 6),
-    )
+    answers::swapped(swap, sizes, old, old.goes(6), old.goes(6))
 }
 
 // Place 8: swap pred's link from curr to succ.
@@ -70,13 +64,7 @@ pub(crate) fn row_8(links: &mut [u32], sizes: Sizes, old: Record) -> Acted
         Field::Succ,
         false,
     );
-    answers::swapped(
-        swap,
-        sizes,
-        old,
-        old.goes(9),
-        old.loses(swap.met, swap.found, 9),
-    )
+    answers::swapped(swap, sizes, old, old.goes(9), old.goes(9))
 }
 
 // Place 9: swap curr's deleter from none to p.

@@ -37,11 +37,5 @@ pub(crate) fn row_4(links: &mut [u32], sizes: Sizes, old: Record) -> Acted
         Field::Own,
         false,
     );
-    answers::swapped(
-        swap,
-        sizes,
-        old,
-        old.goes_with(18, TRUE),
-        old.loses(swap.met, swap.found, 0),
-    )
+    answers::swapped(swap, sizes, old, old.goes_with(18, TRUE), old.goes(0))
 }

@@ -138,11 +138,5 @@ pub(crate) fn row_2(links: &mut [u32], sizes: Sizes, old: Record) -> Acted
         Field::Succ,
         false,
     );
-    answers::swapped(
-        swap,
-        sizes,
-        old,
-        old.unlinked(),
-        old.loses(swap.met, swap.found, 0),
-    )
+    answers::swapped(swap, sizes, old, old.unlinked(), old.goes(0))
 }

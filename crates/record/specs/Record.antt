@@ -1,5 +1,5 @@
 -- The process record of 01, "What is stored": its numbers, and what its methods change of it. Rests on the declared types alone.
-use Rattle.std.specs.Prelude.{ℕ, ◌+◌, Bool, true, false}
+use Rattle.std.specs.Prelude.{ℕ, Bool, true, false}
 use Rattle.record.specs.declared.Node.{Node}
 use Rattle.record.specs.declared.Process.{Process}
 use Rattle.record.specs.declared.Address.{Address}
@@ -68,18 +68,10 @@ abbrev pub lost_part : ℕ → Node → Node → Node → ℕ → Bool → Lost
 lost_part place pred curr succ pending recovering =
     record { place = place; pred = pred; curr = curr; succ = succ; pending = pending; recovering = recovering }
 
--- "and a kept part (status ..; kind ..; address; node ..; result)"; after it, of 02, R-1, "The last lost link swap of each process", "kept through
--- stops": what it met and the word that it found
-abbrev pub kept_part : ℕ → ℕ → Address → Node → ℕ → (met found : ℕ) → Kept
-kept_part status kind address node result met found =
-    record { status = status; kind = kind; address = address; node = node; result = result; met = met; found = found }
-
--- 02, R-1: "the node whose link it was": its number and one, so that head is told from none
-abbrev pub none_met : ℕ
-none_met = 0
-
-abbrev pub met_at : Node → ℕ
-met_at n = n.0 + 1
+-- "and a kept part (status ..; kind ..; address; node ..; result)"
+abbrev pub kept_part : ℕ → ℕ → Address → Node → ℕ → Kept
+kept_part status kind address node result =
+    record { status = status; kind = kind; address = address; node = node; result = result }
 
 abbrev pub record_of : Lost → Kept → Record
 record_of lost kept = record { lost = lost; kept = kept }
@@ -90,7 +82,7 @@ lost_at place = lost_part place no_node no_node no_node no_answer false
 
 -- "A fresh record is all zeros."
 abbrev pub fresh_record : Record
-fresh_record = record_of (lost_at 0) (kept_part idle_status 0 (address 0) no_node no_answer none_met 0)
+fresh_record = record_of (lost_at 0) (kept_part idle_status 0 (address 0) no_node no_answer)
 
 -- ---- what the rows of the place table change; "fields not named stay"
 
@@ -125,23 +117,19 @@ abbrev pub ◌with◌ : ℕ → ℕ → Record → Record
 ◌with◌ place answer r = let l = r.lost in r ▸ lost≔ (lost_part place l.pred l.curr l.succ answer l.recovering)
 
 abbrev pub status≔ : ℕ → Record → Record
-status≔ status r = let k = r.kept in r ▸ kept≔ (kept_part status k.kind k.address k.node k.result k.met k.found)
+status≔ status r = let k = r.kept in r ▸ kept≔ (kept_part status k.kind k.address k.node k.result)
 
 abbrev pub kind≔ : ℕ → Record → Record
-kind≔ kind r = let k = r.kept in r ▸ kept≔ (kept_part k.status kind k.address k.node k.result k.met k.found)
+kind≔ kind r = let k = r.kept in r ▸ kept≔ (kept_part k.status kind k.address k.node k.result)
 
 abbrev pub address≔ : Address → Record → Record
-address≔ a r = let k = r.kept in r ▸ kept≔ (kept_part k.status k.kind a k.node k.result k.met k.found)
+address≔ a r = let k = r.kept in r ▸ kept≔ (kept_part k.status k.kind a k.node k.result)
 
 abbrev pub node≔ : Node → Record → Record
-node≔ n r = let k = r.kept in r ▸ kept≔ (kept_part k.status k.kind k.address n k.result k.met k.found)
+node≔ n r = let k = r.kept in r ▸ kept≔ (kept_part k.status k.kind k.address n k.result)
 
 abbrev pub result≔ : ℕ → Record → Record
-result≔ answer r = let k = r.kept in r ▸ kept≔ (kept_part k.status k.kind k.address k.node answer k.met k.found)
-
--- 02, R-1: "The last lost link swap": what it met, and the word found
-abbrev pub met≔ : (met found : ℕ) → Record → Record
-met≔ met found r = let k = r.kept in r ▸ kept≔ (kept_part k.status k.kind k.address k.node k.result met found)
+result≔ answer r = let k = r.kept in r ▸ kept≔ (kept_part k.status k.kind k.address k.node answer)
 
 -- ---- what requests, stops and restarts make of a record
 

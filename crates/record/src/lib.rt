@@ -1,7 +1,7 @@
 // The three sorts of number, the process record and its methods by value, actions, events and outcomes: what 01 stores and hands about.
 // Rests on the basics.
 ghost use Rattle.std.specs.Prelude.{◌≡◌, cond};
-ghost use Rattle.record.specs.Record.{lost_at, lost_part, record_of, ◌▸◌, ◌with◌, to, pred≔, curr≔, succ≔, node≔, result≔, status≔, met≔};
+ghost use Rattle.record.specs.Record.{lost_at, lost_part, record_of, ◌▸◌, ◌with◌, to, pred≔, curr≔, succ≔, node≔, result≔, status≔};
 ghost use Rattle.record.specs.Record.{fresh_record, requested, went_down, restarted, head_node, idle_status, false_answer, true_answer, fail_answer};
 
 // A node of the table: head is 0, tail 1.
@@ -56,13 +56,11 @@ pub struct Lost {
     pub recovering: bool,
 }
 
-// What a stop keeps. The last lost link swap: the number of the node whose link it was and one, 0 for no such swap yet, and the word found.
+// What a stop keeps.
 #[derive(Drop)]
 pub struct Kept {
     pub address: Address,
     pub node: Node,
-    pub met: u32,
-    pub found: u32,
     pub status: u8,
     pub kind: u8,
     pub result: u8,
@@ -136,8 +134,6 @@ impl Record {
             address: Address(0),
             node: NO_NODE,
             result: NO_ANSWER,
-            met: 0,
-            found: 0,
         };
         Record { lost, kept }
     }
@@ -175,8 +171,6 @@ impl Record {
         let kept = Kept {
             address,
             node,
-            met: self.kept.met,
-            found: self.kept.found,
             status: self.kept.status,
             kind: self.kept.kind,
             result: self.kept.result,
@@ -225,18 +219,6 @@ impl Record {
     {
         let lost = self.lost;
         self.with_lost(lost.pred, lost.succ, lost.succ, 1, lost.pending)
-    }
-
-    // Rows 2, 4, 7 and 8, lost: what the swap met and the word found are kept; to a place.
-    pub fn loses(mut self, met: u32, found: u32, place: u8) -> Record
-        ensures { result ≡ (self ▸ met≔ met found ▸ to place) }
-    {
-        let mut kept = self.kept;
-        kept.met = met;
-        kept.found = found;
-        self.kept = kept;
-        self.lost.place = place;
-        self
     }
 
     // Row 6: succ is the target; to a place.

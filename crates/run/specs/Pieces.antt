@@ -1,12 +1,11 @@
 -- The pieces of a run's output: what comes next, wherever the run stands, and how a run begins. Rests on the schedule's cursors, the place
 -- table's events, the walk along the chain and the text.
-use Rattle.std.specs.Prelude.{cond, List, [], ◌∷◌, ◌++◌, ℕ, suc, ◌+◌, ◌-◌, ltb, eqb, length, take, drop, replicate}
-use Rattle.record.specs.Record.{node, process, fresh_record, head_node, none_met}
+use Rattle.std.specs.Prelude.{cond, List, [], ◌∷◌, ◌++◌, ℕ, suc, ◌+◌, ltb, length, replicate}
+use Rattle.record.specs.Record.{fresh_record, head_node}
 use Rattle.record.specs.declared.Node.{Node}
-use Rattle.record.specs.declared.Kept.{Kept}
 use Rattle.record.specs.declared.Record.{Record}
 use Rattle.record.specs.declared.Outcome.TheVariants as outcome
-use Rattle.table.specs.Words.{Memory, address_at, is_marked}
+use Rattle.table.specs.Words.{Memory, address_at}
 use Rattle.table.specs.Chain.{Ahead, onto, tail_ahead, not_in_use, not_above, ahead}
 use Rattle.table.specs.Events.{State, state_of, event}
 use Rattle.words.specs.LentMemory.{sized, sizes_of}
@@ -18,10 +17,9 @@ use Rattle.schedule.specs.declared.Cursor.{Cursor}
 use Rattle.schedule.specs.declared.EventRead.TheVariants as read
 use Rattle.schedule.specs.declared.HeaderRead.TheVariants as header
 use Rattle.schedule.specs.Cursors.{start, header_at, event_at}
-use Rattle.text.specs.Text.{line, decimal, keys_word, lost_line, space, newline}
+use Rattle.text.specs.Text.{line, decimal, keys_word, space, newline}
 use Rattle.run.specs.declared.Phase.{Phase}
-use Rattle.run.specs.declared.Phase.TheVariants.{Refusing, Acting, Walking, Telling, Over}
-use Rattle.run.specs.declared.Told.{Told}
+use Rattle.run.specs.declared.Phase.TheVariants.{Refusing, Acting, Walking, Over}
 use Rattle.run.specs.declared.Run.{Run}
 use Rattle.run.specs.Filling.{NextPiece, piece, nothing, Stop, fill_from}
 
@@ -59,7 +57,7 @@ next_number n = cond (ltb n 4294967295) (n + 1) n
 abbrev pub went_on : World → Cursor → State → World
 went_on w next σ = world σ.memory (run_of w.run.phase next (sizes_of σ.memory) (next_number w.run.number) σ.row)
 
--- the walk for the `keys` line begins at head
+-- the walk for the last line begins at head
 abbrev pub to_walk : World → World
 to_walk w = in_phase (Walking head_node) w
 
@@ -74,28 +72,12 @@ event_next file w =
       | read.Refused n ↦ piece (line w.run.number (outcome.Refused n) ++ keys_word) (to_walk w)
     ]
 
--- 02, R-1: what is told of a process's kept part
-abbrev pub told_of : (process : ℕ) → Kept → Told
-told_of p k = record { process = process p; node = node (k.met - 1); marked = is_marked k.found }
-
--- "A process that lost none has no line.": the first of records that lost a link swap, their processes numbered on from a number
-unfoldable pub first_told : (process : ℕ) → List Record → Phase
-first_told p [] = Over
-first_told p (r ∷ row) = cond (eqb r.kept.met none_met) (first_told (p + 1) row) (Telling (told_of p r.kept))
-
--- "in process order": the first from a process on, below the process count
-unfoldable pub tells_from : List Record → (processes from : ℕ) → Phase
-tells_from row processes p = first_told p (drop p (take processes row))
-
-abbrev pub to_tell : (from : ℕ) → World → World
-to_tell p w = in_phase (tells_from w.run.row w.run.sizes.processes p) w
-
 -- "the address of every node on the chain between head and tail, rising, decimal, each after a space"
 abbrev pub put_ahead : World → Ahead → NextPiece World
 put_ahead w (onto n) = piece (space ∷ decimal (address_at (memory_of w) n)) (in_phase (Walking n) w)
-put_ahead w tail_ahead = piece (newline ∷ []) (to_tell 0 w)
-put_ahead w not_in_use = piece (newline ∷ []) (to_tell 0 w)
-put_ahead w not_above = piece (newline ∷ []) (to_tell 0 w)
+put_ahead w tail_ahead = piece (newline ∷ []) (in_phase Over w)
+put_ahead w not_in_use = piece (newline ∷ []) (in_phase Over w)
+put_ahead w not_above = piece (newline ∷ []) (in_phase Over w)
 
 -- by what lies ahead of a node
 unfoldable pub address_next : World → Node → NextPiece World
@@ -108,7 +90,6 @@ next_piece file w =
       | Refusing n ↦ piece (line 0 (outcome.Refused n)) (in_phase Over w)
       | Acting ↦ event_next file w
       | Walking n ↦ address_next w n
-      | Telling t ↦ piece (lost_line t.process t.node t.marked) (to_tell (t.process.0 + 1) w)
       | Over ↦ nothing
     ]
 

@@ -10,7 +10,7 @@ use Rattle.schedule.specs.declared.EventRead.TheVariants as read
 use Rattle.text.specs.Text.{line, keys_word}
 use Rattle.text.specs.Put.{put, put_into}
 use Rattle.run.specs.declared.Phase.{Phase}
-use Rattle.run.specs.declared.Phase.TheVariants.{Refusing, Acting, Walking, Telling, Over}
+use Rattle.run.specs.declared.Phase.TheVariants.{Refusing, Acting, Walking, Over}
 use Rattle.run.specs.declared.Run.{Run}
 use Rattle.run.specs.Filling.{piece, Stop, stop, fill_from}
 use Rattle.run.specs.Pieces.{World, world, run_of, in_phase, next_piece, fills}
@@ -38,7 +38,6 @@ abbrev pub Ready : Phase → (room : ℕ) → Type 0
 Ready (Refusing n) room = Unit
 Ready Acting room = room < 64
 Ready (Walking n) room = Unit
-Ready (Telling t) room = Unit
 Ready Over room = Unit
 
 -- a phase that has a piece of its own, which no event puts
@@ -46,7 +45,6 @@ abbrev pub HasPiece : Phase → Type 0
 HasPiece (Refusing n) = Unit
 HasPiece Acting = ⊥
 HasPiece (Walking n) = Unit
-HasPiece (Telling t) = Unit
 HasPiece Over = ⊥
 
 -- filling stops: no room for a piece, or none is left
@@ -54,7 +52,6 @@ abbrev pub stops_at : (room : ℕ) → Phase → Bool
 stops_at room (Refusing n) = ltb room 64
 stops_at room Acting = ltb room 64
 stops_at room (Walking n) = ltb room 64
-stops_at room (Telling t) = ltb room 64
 stops_at room Over = true
 
 -- the piece that comes next in a world was put at the start of a part, and this is the phase after it: one that no event follows
@@ -66,12 +63,12 @@ pub record PutNext (file : List ℕ) (w : World) (part left : List ℕ) (count :
   pub ready : (room : ℕ) → Ready phase room
 
 -- so it is, from a phase on, whatever the file, the rest of the memory and of the run: the walk along the chain reads addresses and links
-abbrev pub PutsNext : (addresses links : List ℕ) → Sizes → (row : List Record) → Phase → (part left : List ℕ) → (count : ℕ) → (after : Phase) → Type 0
-PutsNext addresses links sizes row phase part left count after =
-    (file : List ℕ) (m : Memory) (cursor : Cursor) (number : ℕ) →
+abbrev pub PutsNext : (addresses links : List ℕ) → Sizes → Phase → (part left : List ℕ) → (count : ℕ) → (after : Phase) → Type 0
+PutsNext addresses links sizes phase part left count after =
+    (file : List ℕ) (m : Memory) (cursor : Cursor) (number : ℕ) (row : List Record) →
     PutNext file (world (links≔ links (addresses≔ addresses m)) (run_of phase cursor sizes number row)) part left count after
 
--- what follows the last event: the line of a refusal that stops the run, and the first word of the `keys` line
+-- what follows the last event: the line of a refusal that stops the run, and the first word of the last line
 unfoldable pub stopped_text : (number refusal : ℕ) → List ℕ
 stopped_text number refusal = line number (outcome.Refused refusal) ++ keys_word
 

@@ -11,27 +11,17 @@ ghost use Rattle.run.specs.PrivatePromises.{LeftOff, Ready};
 
 use fresh::{Made, fresh_tables};
 use lines::fill_lines;
-use record::{Node, Process, Record};
+use record::{Node, Record};
 use rest::fill_rest;
 use schedule::{Cursor, HeaderRead, read_header};
 use words::Sizes;
 
-// What is told of a process after the `keys` line: the node whose link its last lost link swap met, and whether the word found was marked.
-#[derive(Drop)]
-pub struct Told {
-    pub process: Process,
-    pub node: Node,
-    pub marked: bool,
-}
-
-// What a run does next: it says why its header was refused, acts on events, walks on along the chain from a node, tells of a process what it lost,
-// or is over.
+// What a run does next: it says why its header was refused, acts on events, walks on along the chain from a node, or is over.
 #[derive(Drop)]
 pub enum Phase {
     Refusing(u8),
     Acting,
     Walking(Node),
-    Telling(Told),
     Over,
 }
 
@@ -153,12 +143,11 @@ fn fill_first(
         Phase::Refusing(_) => Filled { count: 0, run },
         Phase::Acting => fill_lines(file, addresses, links, deleters, block, run),
         Phase::Walking(_) => Filled { count: 0, run },
-        Phase::Telling(_) => Filled { count: 0, run },
         Phase::Over => Filled { count: 0, run },
     }
 }
 
-// Fills a block with whole lines, and with whole addresses of the `keys` line, from where the run stands. A block of fewer than 64 bytes is too
+// Fills a block with whole lines, and with whole addresses of the last line, from where the run stands. A block of fewer than 64 bytes is too
 // short: nothing is put into it, and the run stays.
 pub fn fill(
     file: &[u8],

@@ -1,14 +1,13 @@
-// The pieces that no event puts: the line of a refused header, the `keys` line, an address at a time, and the lines of the lost swaps.
+// The pieces that no event puts: the line of a refused header, and the last line, an address at a time.
 ghost use Rattle.std.specs.Prelude.{◌≡◌, ◌≤◌, ◌-◌, length};
 ghost use Rattle.run.specs.declared.Phase.TheVariants.{Walking};
-ghost use Rattle.run.specs.Pieces.{tells_from};
 ghost use Rattle.run.specs.PrivatePromises.{FilledOn, Ready, HasPiece, PutsNext, stops_at};
 
-use crate::{Filled, Phase, Run, Told};
+use crate::{Filled, Phase, Run};
 use chain::{Ahead, onward};
-use record::{Node, Process, Record};
-use text::{put_address, put_lost, put_newline, put_refusal};
-use words::{Sizes, is_marked};
+use record::Node;
+use text::{put_address, put_newline, put_refusal};
+use words::Sizes;
 
 // A piece that was put: its bytes, and the phase after it.
 #[derive(Drop)]
@@ -17,38 +16,9 @@ struct Added {
     phase: Phase,
 }
 
-// The first process from a number on, below the process count, that has lost a link swap.
-fn tells_from(row: [Record; 64], processes: u32, from: usize) -> Phase
-    ensures { result ≡ tells_from row processes from }
-{
-    let mut p = from;
-    while p < 64 {
-        if processes as usize <= p {
-            return Phase::Over;
-        }
-        let kept = row[p].kept;
-        if kept.met != 0 {
-            return Phase::Telling(Told {
-                process: Process(p as u32),
-                node: Node(kept.met - 1),
-                marked: is_marked(kept.found),
-            });
-        }
-        p += 1;
-    }
-    Phase::Over
-}
-
-// The next address of the `keys` line, or its end.
-fn put_ahead(
-    addresses: &[u32],
-    links: &[u32],
-    sizes: Sizes,
-    row: [Record; 64],
-    part: &mut [u8],
-    node: Node,
-) -> Added
-    ensures puts_next { PutsNext addresses.now links.now sizes row (Walking node) part.old part.new result.count result.phase }
+// The next address of the last line, or its end.
+fn put_ahead(addresses: &[u32], links: &[u32], sizes: Sizes, part: &mut [u8], node: Node) -> Added
+    ensures puts_next { PutsNext addresses.now links.now sizes (Walking node) part.old part.new result.count result.phase }
     ensures count_bound { result.count ≤ 30 }
 {
     let ahead = onward(addresses, links, sizes, node);
@@ -56,7 +26,7 @@ fn put_ahead(
         let count = put_newline(part);
         return Added {
             count,
-            phase: tells_from(row, sizes.processes, 0),
+            phase: Phase::Over,
         };
     };
     let count = put_address(part, address);
@@ -67,16 +37,9 @@ fn put_ahead(
 }
 
 // The next piece, by the phase.
-fn put_next(
-    addresses: &[u32],
-    links: &[u32],
-    sizes: Sizes,
-    row: [Record; 64],
-    part: &mut [u8],
-    phase: Phase,
-) -> Added
+fn put_next(addresses: &[u32], links: &[u32], sizes: Sizes, part: &mut [u8], phase: Phase) -> Added
     requires { HasPiece phase }
-    ensures puts_next { PutsNext addresses.now links.now sizes row phase part.old part.new result.count result.phase }
+    ensures puts_next { PutsNext addresses.now links.now sizes phase part.old part.new result.count result.phase }
     ensures count_bound { result.count ≤ 30 }
 {
     match phase {
@@ -87,14 +50,7 @@ fn put_next(
                 phase: Phase::Over,
             }
         }
-        Phase::Walking(node) => put_ahead(addresses, links, sizes, row, part, node),
-        Phase::Telling(told) => {
-            let count = put_lost(part, told.process, told.node, told.marked);
-            Added {
-                count,
-                phase: tells_from(row, sizes.processes, told.process.0 as usize + 1),
-            }
-        }
+        Phase::Walking(node) => put_ahead(addresses, links, sizes, part, node),
         Phase::Acting => Added { count: 0, phase },
         Phase::Over => Added { count: 0, phase },
     }
@@ -108,7 +64,6 @@ fn stops(room: usize, phase: Phase) -> bool
         Phase::Refusing(_) => room < 64,
         Phase::Acting => room < 64,
         Phase::Walking(_) => room < 64,
-        Phase::Telling(_) => room < 64,
         Phase::Over => true,
     }
 }
@@ -127,7 +82,6 @@ pub(crate) fn fill_rest(
     ensures count_in_bounds { result.count ≤ length block.new }
 {
     let sizes = run.sizes;
-    let row = run.row;
     let mut at = from;
     let mut phase = run.phase;
     loop {
@@ -135,7 +89,7 @@ pub(crate) fn fill_rest(
             let run = run.in_phase(phase);
             return Filled { count: at, run };
         }
-        let next = put_next(addresses, links, sizes, row, &mut block[at..], phase);
+        let next = put_next(addresses, links, sizes, &mut block[at..], phase);
         at = at + next.count;
         phase = next.phase;
     }

@@ -2,7 +2,6 @@ pub mod Words
 pub mod Places
 pub mod Steps
 pub mod Events
-pub mod LostSwaps
 pub mod Chain
 pub mod Refusal8
 pub mod History

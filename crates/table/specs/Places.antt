@@ -1,7 +1,7 @@
 -- 01's place table, row by row: a row is its one access, and what follows from what the access meets. Rests on Words and the record's changes.
 use Rattle.std.specs.Prelude.{Bool, true, false, cond, not, ◌&&◌, List, [], ◌∷◌, ℕ, eqb, get_or}
-use Rattle.record.specs.Record.{◌▸◌, ◌with◌, to, pred≔, curr≔, succ≔, node≔, result≔, status≔, met≔, head_node, idle_status, insert_kind, delete_kind}
-use Rattle.record.specs.Record.{met_at, no_node, no_answer, false_answer, true_answer, fail_answer}
+use Rattle.record.specs.Record.{◌▸◌, ◌with◌, to, pred≔, curr≔, succ≔, node≔, result≔, status≔, head_node, idle_status, insert_kind, delete_kind}
+use Rattle.record.specs.Record.{no_node, no_answer, false_answer, true_answer, fail_answer}
 use Rattle.record.specs.declared.Node.{Node}
 use Rattle.record.specs.declared.Record.{Record}
 use Rattle.table.specs.Words.{link_word, below, equal}
@@ -31,7 +31,7 @@ pub data Next : Type 0 where
 pub data Row : Type 0 where
   read_link : Field → (Node → Bool → Next) → Row  -- from target and mark
   write_link : Field → Link → Record → Row
-  swap_link : Field → Link → Link → Record → (ℕ → Record) → Row  -- "(curr, unmarked) to (succ, unmarked)"; done; lost, from the word found
+  swap_link : Field → Link → Link → Record → Record → Row  -- "(curr, unmarked) to (succ, unmarked)"; done; lost
   read_deleter : Field → (Bool → Record) → Row  -- from whether it is p
   swap_deleter : Field → Record → Row  -- "none to p"; either way
   write_node : Field → Record → Row  -- a field of the record itself: no link or deleter word
@@ -69,19 +69,19 @@ module _ (addresses : List ℕ) where
       (searchEnds (r ▸ succ≔ target)))
   row p2 r = swap_link pred (unmarked curr) (unmarked succ)
       (r ▸ curr≔ (node_of r succ) ▸ to 1)
-      (λ found. r ▸ met≔ (met_at (node_of r pred)) found ▸ to 0)
+      (r ▸ to 0)
   row p3 r = write_link own (unmarked curr) (r ▸ to 4)
   row p4 r = swap_link pred (unmarked curr) (unmarked own)
       (r ▸ 18 with true_answer)
-      (λ found. r ▸ met≔ (met_at (node_of r pred)) found ▸ to 0)
+      (r ▸ to 0)
   row p5 r = write_node curr (r ▸ node≔ (node_of r curr) ▸ to 6)
   row p6 r = read_link curr λ target mark. goes (cond mark (r ▸ succ≔ target ▸ to 8) (r ▸ succ≔ target ▸ to 7))
   row p7 r = swap_link curr (unmarked succ) (marked succ)
       (r ▸ to 6)
-      (λ found. r ▸ met≔ (met_at (node_of r curr)) found ▸ to 6)
+      (r ▸ to 6)
   row p8 r = swap_link pred (unmarked curr) (unmarked succ)
       (r ▸ to 9)
-      (λ found. r ▸ met≔ (met_at (node_of r pred)) found ▸ to 9)
+      (r ▸ to 9)
   row p9 r = swap_deleter curr (r ▸ to 10)
   row p10 r = read_deleter curr λ mine. cond mine (r ▸ 18 with true_answer) (r ▸ 18 with false_answer)
   row p11 r = read_link curr λ target mark. goes

@@ -49,7 +49,7 @@ access_of p r (write_link f new after) =
 access_of p r (swap_link f old new done lost) =
     access (f ∷ field_of old ∷ field_of new ∷ []) (link f) (λ w. [])
     (λ w. cond (swaps w (link_of r old)) (link_is (node_of r f) (link_of r new)) nothing)
-    (λ w. goes (cond (swaps w (link_of r old)) done (lost w))) accepted
+    (λ w. goes (cond (swaps w (link_of r old)) done lost)) accepted
 access_of p r (read_deleter f follows) =
     access (f ∷ []) (deleter f) (λ w. []) (λ w. nothing) (λ w. goes (follows (eqb w (deleter_word p)))) accepted
 access_of p r (swap_deleter f after) =

@@ -1,8 +1,6 @@
 -- The text that 01's run program prints: numbers in decimal, the words, a line. Assumes nothing.
-use Rattle.std.specs.Prelude.{Bool, cond, List, [], ◌∷◌, ◌++◌, ℕ, zero, suc, ◌+◌, ◌/◌, ◌%◌, ltb, eqb}
+use Rattle.std.specs.Prelude.{cond, List, [], ◌∷◌, ◌++◌, ℕ, zero, suc, ◌+◌, ◌/◌, ◌%◌, ltb, eqb}
 use Rattle.record.specs.Record.{false_answer, true_answer}
-use Rattle.record.specs.declared.Node.{Node}
-use Rattle.record.specs.declared.Process.{Process}
 use Rattle.record.specs.declared.Address.{Address}
 use Rattle.record.specs.declared.Outcome.{Outcome}
 use Rattle.record.specs.declared.Outcome.TheVariants.{Refused, Accepted, Answered}
@@ -22,7 +20,7 @@ space = 32
 abbrev pub newline : ℕ
 newline = 10
 
--- `ok`, `false`, `true`, `fail`, `refused`, `keys`; of 02, R-1, `marked`, `moved`
+-- `ok`, `false`, `true`, `fail`, `refused`, `keys`
 abbrev pub ok_word : List ℕ
 ok_word = 111 ∷ 107 ∷ []
 
@@ -40,12 +38,6 @@ refused_word = 114 ∷ 101 ∷ 102 ∷ 117 ∷ 115 ∷ 101 ∷ 100 ∷ []
 
 abbrev pub keys_word : List ℕ
 keys_word = 107 ∷ 101 ∷ 121 ∷ 115 ∷ []
-
-abbrev pub marked_word : List ℕ
-marked_word = 109 ∷ 97 ∷ 114 ∷ 107 ∷ 101 ∷ 100 ∷ []
-
-abbrev pub moved_word : List ℕ
-moved_word = 109 ∷ 111 ∷ 118 ∷ 101 ∷ 100 ∷ []
 
 -- "then `ok`, an answer (`false`, `true`, `fail`) or `refused N`"
 unfoldable pub outcome_text : Outcome → List ℕ
@@ -67,13 +59,3 @@ addresses_text (a ∷ more) = space ∷ decimal a.0 ++ addresses_text more
 
 unfoldable pub keys_line : List Address → List ℕ
 keys_line addresses = keys_word ++ (addresses_text addresses ++ (newline ∷ []))
-
--- 02, R-1: "process number, the node whose link it was, and `marked` if the word found was marked, else `moved`, single spaces between"
-abbrev pub lost_end : (marked : Bool) → List ℕ
-lost_end marked = space ∷ cond marked marked_word moved_word ++ (newline ∷ [])
-
-abbrev pub met_text : Node → (marked : Bool) → List ℕ
-met_text n marked = space ∷ decimal n.0 ++ lost_end marked
-
-unfoldable pub lost_line : Process → Node → (marked : Bool) → List ℕ
-lost_line p n marked = decimal p.0 ++ met_text n marked

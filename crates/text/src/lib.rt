@@ -1,14 +1,13 @@
-// Text put at the start of a lent part of a block: a line, an address of the `keys` line, its first word and its end; the line of a lost swap; an
-// outcome, and a number.
+// Text put at the start of a lent part of a block: a line, an address of the last line, its first word and its end; an outcome, and a number.
 // Each writer answers how many bytes it put; a part of fewer than 32 bytes is left as it is. Rests on the text of 01, specs/Text.
 // The number of a line is spelt eight digits at once, in one word; specs/Digits has what those writers say among themselves.
 ghost use Rattle.std.specs.Prelude.{◌≡◌, [], ◌∷◌, ◌++◌, ◌-◌, ◌<◌, ◌≤◌, length};
-ghost use Rattle.text.specs.Text.{decimal, space, newline, keys_word, outcome_text, line_end, line, lost_end, met_text, lost_line};
+ghost use Rattle.text.specs.Text.{decimal, space, newline, keys_word, outcome_text, line_end, line};
 ghost use Rattle.text.specs.Digits.{last_digits, word, pairs_of, tens, Begun};
 ghost use Rattle.text.specs.Put.{put, puts, put_into};
 ghost use Rattle.record.specs.declared.Outcome.TheVariants.{Refused, Answered};
 
-use record::{Address, FALSE, Node, Outcome, Process, TRUE};
+use record::{Address, FALSE, Outcome, TRUE};
 
 // How many decimal digits a number has; those of a long run's lines are told first.
 fn places(n: u32) -> usize
@@ -264,7 +263,7 @@ pub fn put_outcome(part: &mut [u8], outcome: Outcome) -> usize
     put_text(part, &end[1..k - 1])
 }
 
-// The first word of the `keys` line.
+// The first word of the last line.
 pub fn put_keys(part: &mut [u8]) -> usize
     ensures result_after { put part.new result ≡ put_into keys_word part.old }
     ensures upper_bound { result ≤ 4 }
@@ -275,17 +274,6 @@ pub fn put_keys(part: &mut [u8]) -> usize
     put_text(part, b"keys")
 }
 
-// A number after a space, where there is room for it.
-fn put_spaced(part: &mut [u8], number: u32) -> usize
-    requires { 11 ≤ length part.old }
-    ensures result_after { put part.new result ≡ puts (space ∷ decimal number) part.old }
-    ensures upper_bound { result ≤ 11 }
-{
-    let k = put_byte(part, b' ');
-    let m = put_decimal(&mut part[k..], number);
-    k + m
-}
-
 // A number after a space.
 pub fn put_number(part: &mut [u8], number: u32) -> usize
     ensures result_after { put part.new result ≡ put_into (space ∷ decimal number) part.old }
@@ -294,10 +282,12 @@ pub fn put_number(part: &mut [u8], number: u32) -> usize
     if part.len() < 32 {
         return 0;
     }
-    put_spaced(part, number)
+    let k = put_byte(part, b' ');
+    let m = put_decimal(&mut part[k..], number);
+    k + m
 }
 
-// An address of the `keys` line, after a space.
+// An address of the last line, after a space.
 pub fn put_address(part: &mut [u8], address: Address) -> usize
     ensures result_after { put part.new result ≡ put_into (space ∷ decimal address.0) part.old }
     ensures upper_bound { result ≤ 11 }
@@ -305,7 +295,7 @@ pub fn put_address(part: &mut [u8], address: Address) -> usize
     put_number(part, address.0)
 }
 
-// The end of the `keys` line.
+// The end of the last line.
 pub fn put_newline(part: &mut [u8]) -> usize
     ensures result_after { put part.new result ≡ put_into (newline ∷ []) part.old }
     ensures upper_bound { result ≤ 1 }
@@ -314,40 +304,4 @@ pub fn put_newline(part: &mut [u8]) -> usize
         return 0;
     }
     put_byte(part, b'\n')
-}
-
-// ` marked` or ` moved` and the end of the line.
-fn put_mark(part: &mut [u8], marked: bool) -> usize
-    requires { 8 ≤ length part.old }
-    ensures result_after { put part.new result ≡ puts (lost_end marked) part.old }
-    ensures upper_bound { result ≤ 8 }
-{
-    if marked {
-        return put_text(part, b" marked\n");
-    }
-    put_text(part, b" moved\n")
-}
-
-// What a lost swap met, after a space, and the end of the line.
-fn put_met(part: &mut [u8], node: Node, marked: bool) -> usize
-    requires { 19 ≤ length part.old }
-    ensures result_after { put part.new result ≡ puts (met_text node marked) part.old }
-    ensures upper_bound { result ≤ 19 }
-{
-    let k = put_spaced(part, node.0);
-    let m = put_mark(&mut part[k..], marked);
-    k + m
-}
-
-// The line of a lost swap: the process, the node whose link it was, and what it met there.
-pub fn put_lost(part: &mut [u8], process: Process, node: Node, marked: bool) -> usize
-    ensures result_after { put part.new result ≡ put_into (lost_line process node marked) part.old }
-    ensures upper_bound { result ≤ 29 }
-{
-    if part.len() < 32 {
-        return 0;
-    }
-    let k = put_decimal(part, process.0);
-    let m = put_met(&mut part[k..], node, marked);
-    k + m
 }

@@ -7,8 +7,8 @@ use native.Mathlib.Omega.{arith}
 use Rattle.record.specs.declared.Node.{Node}
 use Rattle.table.specs.Words.{link_word}
 
-pub marked_word_lem : (n : Node) (mark : Bool) → mark ≡ true → (2 * n.0 + 1) % 4294967296 ≡ link_word n mark % 4294967296
-marked_word_lem n mark e = rw e
+pub marked_word : (n : Node) (mark : Bool) → mark ≡ true → (2 * n.0 + 1) % 4294967296 ≡ link_word n mark % 4294967296
+marked_word n mark e = rw e
 
 pub unmarked_word : (n : Node) (mark : Bool) → mark ≡ false → (2 * n.0) % 4294967296 ≡ link_word n mark % 4294967296
 unmarked_word n mark e = rw e (ap (λ (x : ℕ). x % 4294967296) (omega arith))

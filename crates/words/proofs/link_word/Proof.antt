@@ -1,5 +1,5 @@
 -- With a mark and without.
-use Rattle.words.proofs.Links.{marked_word_lem, unmarked_word}
+use Rattle.words.proofs.Links.{marked_word, unmarked_word}
 use borrow.Author.Rules.{rules}
 use Rattle.words.proofs.link_word.Statement.{statement}
 use Rattle.words.proofs.link_word.Tie as tie
@@ -17,7 +17,7 @@ cast-result : tie.Need-overflow-cast-result
 cast-result c = search rules
 
 returns : tie.Need-returns
-returns c = search (rules, marked_word_lem)
+returns c = search (rules, marked_word)
 
 cast-result-2 : tie.Need-overflow-cast-result-2
 cast-result-2 c = search rules
