@@ -1,5 +1,7 @@
 // Single events on lent, possibly damaged tables: cases from standard input, a line for each. The format of a case stands in reading, that of
 // its line in writing.
+#![tactic(auto)]
+
 mod reading;
 mod writing;
 
@@ -15,7 +17,7 @@ use record::{Event, Record};
 use words::Sizes;
 
 // The records after an event, and what it says.
-#[derive(Drop)]
+#[derive(Clone, Copy)]
 struct RecordsLeft {
     records: [Record; 64],
     said: Said,
@@ -69,7 +71,7 @@ fn answer(
 }
 
 // Where output and input stand, and whether all that was to be written was.
-#[derive(Drop)]
+#[derive(Clone, Copy)]
 struct Stand {
     used: usize,
     at: usize,

@@ -15,7 +15,7 @@ const MOST_LENT: u32 = 64;
 const MOST_BYTE: u32 = 255;
 
 // A number taken from the input, and the place after it; once one was not good, none after it is.
-#[derive(Drop)]
+#[derive(Clone, Copy)]
 pub(crate) struct Taken {
     pub(crate) number: u32,
     pub(crate) next: usize,
@@ -23,51 +23,51 @@ pub(crate) struct Taken {
 }
 
 // The records that are lent: the first of an array.
-#[derive(Drop)]
+#[derive(Clone, Copy)]
 pub(crate) struct LentRecords {
     pub(crate) records: [Record; 64],
     pub(crate) lent: usize,
 }
 
 // The parts of a case, each with the number taken last; a good case ends with a good number. Of a table the first words of an array are lent.
-#[derive(Drop)]
+#[derive(Clone, Copy)]
 pub(crate) struct TakenSizes {
     pub(crate) sizes: Sizes,
     pub(crate) last: Taken,
 }
 
-#[derive(Drop)]
+#[derive(Clone, Copy)]
 pub(crate) struct TakenWords {
     pub(crate) words: [u32; 64],
     pub(crate) lent: usize,
     pub(crate) last: Taken,
 }
 
-#[derive(Drop)]
+#[derive(Clone, Copy)]
 struct TakenLost {
     lost: Lost,
     last: Taken,
 }
 
-#[derive(Drop)]
+#[derive(Clone, Copy)]
 struct TakenKept {
     kept: Kept,
     last: Taken,
 }
 
-#[derive(Drop)]
+#[derive(Clone, Copy)]
 struct TakenRecord {
     record: Record,
     last: Taken,
 }
 
-#[derive(Drop)]
+#[derive(Clone, Copy)]
 pub(crate) struct TakenRow {
     pub(crate) row: LentRecords,
     pub(crate) last: Taken,
 }
 
-#[derive(Drop)]
+#[derive(Clone, Copy)]
 pub(crate) struct TakenEvent {
     pub(crate) event: Event,
     pub(crate) last: Taken,

@@ -1,4 +1,6 @@
 // The addresses on the chain, read into a lent buffer: what the `keys` line shows. Rests on the place table's walk and on the words.
+#![tactic(auto)]
+
 ghost use Rattle.std.specs.Prelude.{◌≡◌, ltb, eqb};
 ghost use Rattle.record.specs.Record.{tail_node};
 ghost use Rattle.table.specs.Words.{Memory, addresses≔, links≔};
@@ -11,7 +13,7 @@ use record::{Address, HEAD, Node, TAIL, either};
 use words::Sizes;
 
 // What the walk along the chain meets after a node: a node to go on to, with its address, or why it stops.
-#[derive(Drop)]
+#[derive(Clone, Copy)]
 pub enum Ahead {
     Next(Node, Address),
     Tail,
@@ -21,7 +23,7 @@ pub enum Ahead {
 
 // What reading the chain's addresses comes to: refused with its number, or how many were written and what the walk met after the last of
 // them: a next node with its address, where the buffer was full.
-#[derive(Drop)]
+#[derive(Clone, Copy)]
 pub enum Keys {
     Refused(u8),
     Read(usize, Ahead),

@@ -1,4 +1,6 @@
 // The run program of 01: a schedule file from standard input, its lines to standard output. What keeps it from either is said on standard error.
+#![tactic(auto)]
+
 use printer::{Printout, print_output};
 
 fn main() {

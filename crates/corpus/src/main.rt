@@ -1,6 +1,8 @@
 // Many schedule files in one stream: standard input packs each as its length, a number in 01's form, and that many bytes. Each is run in turn
 // by the same library as the run program's, and its lines written. It ends where the input ends between two files. Where the input can't be read
 // or is no row of packed files, or the output can't be written, it says so on standard error and stops; a file that did not come whole is not run.
+#![tactic(auto)]
+
 ghost use Rattle.std.specs.Prelude.{◌<◌, ◌≤◌, length};
 
 use numbers::{NumberRead, read_number};
@@ -89,7 +91,7 @@ fn read_groups(groups: &mut [u8]) -> usize
 }
 
 // The next file: whether there is one, and how many bytes of it stand at the start of the space.
-#[derive(Drop)]
+#[derive(Clone, Copy)]
 struct NextFile {
     there: bool,
     length: usize,

@@ -1,4 +1,6 @@
 // Lent tables and a lent row of records made fresh, or refused. Rests on the words.
+#![tactic(auto)]
+
 ghost use Rattle.std.specs.Prelude.{◌≡◌, List, ℕ, ◌≤◌, length, replicate};
 ghost use Rattle.basics.specs.Over.{over};
 ghost use Rattle.record.specs.Record.{fresh_record};
@@ -12,7 +14,7 @@ use record::{Record, TAIL};
 use words::Sizes;
 
 // What making lent tables fresh comes to: refused with its number, or fresh with these sizes.
-#[derive(Drop)]
+#[derive(Clone, Copy)]
 pub enum Made {
     Refused(u8),
     Fresh(Sizes),
@@ -67,7 +69,7 @@ pub fn fresh_tables(
 }
 
 // How many records of a row are still to be made fresh, and the answer.
-#[derive(Drop)]
+#[derive(Clone, Copy)]
 struct Beside {
     records: usize,
     answer: Made,

@@ -1,4 +1,6 @@
 // The lent forms of an event: on a lent record, and in a lent row of records. Rests on the list.
+#![tactic(auto)]
+
 ghost use Rattle.std.specs.Prelude.{◌≡◌};
 ghost use Rattle.table.specs.Events.{act, state_of, leaves_in, event as eventIn};
 ghost use Rattle.words.specs.LentMemory.{lent_memory};
@@ -9,14 +11,14 @@ use record::{Action, Event, Outcome, Process, Record};
 use words::Sizes;
 
 // What an event says to whoever lent the record or the row: the sizes after it, and its outcome.
-#[derive(Drop)]
+#[derive(Clone, Copy)]
 pub struct Said {
     pub sizes: Sizes,
     pub outcome: Outcome,
 }
 
 // A record advanced, to be stored where the old one was lent, and what is said.
-#[derive(Drop)]
+#[derive(Clone, Copy)]
 struct Handed {
     advanced: Record,
     said: Said,

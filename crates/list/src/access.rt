@@ -14,7 +14,7 @@ use record::{HEAD, NO_NODE, Node, Process, Record};
 use words::{LinkRead, Sizes};
 
 // A node as a row names it: head, or a field of the record.
-#[derive(Drop)]
+#[derive(Clone, Copy)]
 pub(crate) enum Field {
     Head,
     Pred,
@@ -24,14 +24,14 @@ pub(crate) enum Field {
 }
 
 // What reading a deleter meets: whether it is accepted, and whether it is the process.
-#[derive(Drop)]
+#[derive(Clone, Copy)]
 pub(crate) struct DeleterRead {
     pub(crate) accepted: bool,
     pub(crate) mine: bool,
 }
 
 // What a swap meets: whether it is accepted, whether it wrote, and the word found.
-#[derive(Drop)]
+#[derive(Clone, Copy)]
 pub(crate) struct SwapMet {
     pub(crate) accepted: bool,
     pub(crate) wrote: bool,

@@ -1,4 +1,6 @@
 // The list over lent tables: one event on one record by value. Rests on the place table.
+#![tactic(auto)]
+
 ghost use Rattle.std.specs.Prelude.{◌≡◌};
 ghost use Rattle.table.specs.Events.{act};
 ghost use Rattle.words.specs.LentMemory.{lent_memory};
@@ -18,7 +20,7 @@ use record::{Action, Outcome, Process, Record};
 use words::Sizes;
 
 // What an event leaves of the record and of the sizes, and its outcome.
-#[derive(Drop)]
+#[derive(Clone, Copy)]
 pub struct Acted {
     pub advanced: Record,
     pub sizes: Sizes,

@@ -18,7 +18,7 @@ use record::{FALSE, HEAD, INSERTS, Record, TRUE, either};
 use words::{Compared, LinkRead, Sizes};
 
 // Where a search that ends goes, and the pending answer that it goes with.
-#[derive(Drop)]
+#[derive(Clone, Copy)]
 pub(crate) struct Goal {
     pub(crate) place: u8,
     pub(crate) answer: u8,

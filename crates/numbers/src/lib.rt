@@ -1,11 +1,13 @@
 // Numbers of 01 as bytes, and their reader: a number's groups are gathered into a scratch array of five, then judged and summed. The
 // definitions of the bytes are in specs/.
+#![tactic(auto)]
+
 ghost use Rattle.std.specs.Prelude.{◌≡◌, ◌+◌, ◌*◌, ◌<◌};
 ghost use Rattle.numbers.specs.ReadAt.{number_at};
 ghost use Rattle.numbers.specs.Gathering.{Groups, summed_with, judged};
 
 // A number with the place after it, or the refusal's number.
-#[derive(Drop)]
+#[derive(Clone, Copy)]
 pub enum NumberRead {
     Got(u32, usize),
     Refused(u8),

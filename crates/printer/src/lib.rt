@@ -1,4 +1,6 @@
 // Prints a run: the blocks of its output, one after the other, to standard output. Rests on the run.
+#![tactic(auto)]
+
 ghost use Rattle.std.specs.Prelude.{length};
 ghost use Rattle.words.specs.LentMemory.{lent_memory};
 ghost use Rattle.run.specs.Pieces.{unstated, begins};
@@ -7,7 +9,7 @@ ghost use Rattle.printer.specs.Printing.{Printed, PrintedAs};
 use run::{begin, fill};
 
 // What printing comes to: all was written; standard output took no more; or the block is too short for any piece of it, and nothing was touched.
-#[derive(Drop)]
+#[derive(Clone, Copy)]
 pub enum Printout {
     Whole,
     Cut,

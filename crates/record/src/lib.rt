@@ -1,19 +1,21 @@
 // The three sorts of number, the process record and its methods by value, actions, events and outcomes: what 01 stores and hands about.
 // Rests on the basics.
+#![tactic(auto)]
+
 ghost use Rattle.std.specs.Prelude.{◌≡◌, cond};
 ghost use Rattle.record.specs.Record.{lost_at, lost_part, record_of, ◌▸◌, ◌with◌, to, pred≔, curr≔, succ≔, node≔, result≔, status≔};
 ghost use Rattle.record.specs.Record.{fresh_record, requested, went_down, restarted, head_node, idle_status, false_answer, true_answer, fail_answer};
 
 // A node of the table: head is 0, tail 1.
-#[derive(Drop)]
+#[derive(Clone, Copy)]
 pub struct Node(pub u32);
 
 // A process, numbered from 0.
-#[derive(Drop)]
+#[derive(Clone, Copy)]
 pub struct Process(pub u32);
 
 // A claimed address: any 32-bit number.
-#[derive(Drop)]
+#[derive(Clone, Copy)]
 pub struct Address(pub u32);
 
 pub const HEAD: Node = Node(0);
@@ -46,7 +48,7 @@ pub const TRUE: u8 = 2;
 pub const FAIL: u8 = 3;
 
 // What a stop loses. Here and below the small fields come last, so that a record is copied in whole words; 01's order is that of `lost_part`.
-#[derive(Drop)]
+#[derive(Clone, Copy)]
 pub struct Lost {
     pub pred: Node,
     pub curr: Node,
@@ -57,7 +59,7 @@ pub struct Lost {
 }
 
 // What a stop keeps.
-#[derive(Drop)]
+#[derive(Clone, Copy)]
 pub struct Kept {
     pub address: Address,
     pub node: Node,
@@ -66,14 +68,14 @@ pub struct Kept {
     pub result: u8,
 }
 
-#[derive(Drop)]
+#[derive(Clone, Copy)]
 pub struct Record {
     pub lost: Lost,
     pub kept: Kept,
 }
 
 // What a process does: kinds 0 to 5.
-#[derive(Drop)]
+#[derive(Clone, Copy)]
 pub enum Action {
     Insert(Address),
     Delete(Address),
@@ -84,14 +86,14 @@ pub enum Action {
 }
 
 // An event: a process, and what it does.
-#[derive(Drop)]
+#[derive(Clone, Copy)]
 pub struct Event {
     pub process: Process,
     pub action: Action,
 }
 
 // What an event comes to: refused with its number, accepted, or accepted with an answer (false 1, true 2, fail 3).
-#[derive(Drop)]
+#[derive(Clone, Copy)]
 pub enum Outcome {
     Refused(u8),
     Accepted,

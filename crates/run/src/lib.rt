@@ -1,4 +1,6 @@
 // 01's run program: from the bytes of a schedule file to lines of text, block after block. Rests on the reader, the list and the text.
+#![tactic(auto)]
+
 mod lines;
 mod rest;
 
@@ -17,7 +19,7 @@ use schedule::{Cursor, HeaderRead, read_header};
 use words::Sizes;
 
 // What a run does next: it says why its header was refused, acts on events, walks on along the chain from a node, or is over.
-#[derive(Drop)]
+#[derive(Clone, Copy)]
 pub enum Phase {
     Refusing(u8),
     Acting,
@@ -26,7 +28,7 @@ pub enum Phase {
 }
 
 // A run that stands somewhere: its phase, its reading, the stated sizes, the number of its next line, and its records.
-#[derive(Drop)]
+#[derive(Clone, Copy)]
 pub struct Run {
     pub phase: Phase,
     pub cursor: Cursor,
@@ -36,7 +38,7 @@ pub struct Run {
 }
 
 // How many bytes of the block are filled, and the run to go on with.
-#[derive(Drop)]
+#[derive(Clone, Copy)]
 pub struct Filled {
     pub count: usize,
     pub run: Run,

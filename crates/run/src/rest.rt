@@ -10,7 +10,7 @@ use text::{put_address, put_newline, put_refusal};
 use words::Sizes;
 
 // A piece that was put: its bytes, and the phase after it.
-#[derive(Drop)]
+#[derive(Clone, Copy)]
 struct Added {
     count: usize,
     phase: Phase,

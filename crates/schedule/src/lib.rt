@@ -1,4 +1,6 @@
 // Schedule files of 01. The definitions of the bytes are in specs/.
+#![tactic(auto)]
+
 mod reading;
 mod writing;
 
@@ -10,14 +12,14 @@ use record::{Event, Process};
 pub use writing::{write_event, write_header};
 
 // The sizes that a schedule asks for.
-#[derive(Drop)]
+#[derive(Clone, Copy)]
 pub struct Header {
     pub nodes: u32,
     pub processes: u32,
 }
 
 // Where reading stands: the next byte, and of a burst being handed out its process and how many steps are left.
-#[derive(Drop)]
+#[derive(Clone, Copy)]
 pub struct Cursor {
     pub at: usize,
     pub process: Process,
@@ -25,14 +27,14 @@ pub struct Cursor {
 }
 
 // A header with the cursor after it, or the refusal's number.
-#[derive(Drop)]
+#[derive(Clone, Copy)]
 pub enum HeaderRead {
     Got(Header, Cursor),
     Refused(u8),
 }
 
 // An event with the cursor after it, the end of the file, or the refusal's number.
-#[derive(Drop)]
+#[derive(Clone, Copy)]
 pub enum EventRead {
     Got(Event, Cursor),
     End,
@@ -40,7 +42,7 @@ pub enum EventRead {
 }
 
 // The place after what was written, or the refusal's number.
-#[derive(Drop)]
+#[derive(Clone, Copy)]
 pub enum Written {
     Next(usize),
     Refused(u8),

@@ -9,7 +9,7 @@ use crate::{Header, Written};
 use record::{Action, Address, Event, Process};
 
 // The numbers that a header or an event is written as: two, or three.
-#[derive(Drop)]
+#[derive(Clone, Copy)]
 struct Numbers {
     first: u32,
     second: u32,

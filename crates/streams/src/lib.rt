@@ -1,9 +1,11 @@
 // What the programs do with their streams: standard input read so that a failed read is told from the end of the input, and words to standard
 // error. Rests on the kit's libc and io.
+#![tactic(auto)]
+
 ghost use Rattle.io.specs.Counts.{IsPrefixLen};
 
 // What reading came to: how many bytes stand at the start of the space, and whether a read failed.
-#[derive(Drop)]
+#[derive(Clone, Copy)]
 pub struct Input {
     pub count: usize,
     pub broken: bool,

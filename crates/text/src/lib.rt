@@ -1,6 +1,8 @@
 // Text put at the start of a lent part of a block: a line, an address of the last line, its first word and its end; an outcome, and a number.
 // Each writer answers how many bytes it put; a part of fewer than 32 bytes is left as it is. Rests on the text of 01, specs/Text.
 // The number of a line is spelt eight digits at once, in one word; specs/Digits has what those writers say among themselves.
+#![tactic(auto)]
+
 ghost use Rattle.std.specs.Prelude.{◌≡◌, [], ◌∷◌, ◌++◌, ◌-◌, ◌<◌, ◌≤◌, length};
 ghost use Rattle.text.specs.Text.{decimal, space, newline, keys_word, outcome_text, line_end, line};
 ghost use Rattle.text.specs.Digits.{last_digits, word, pairs_of, tens, Begun};

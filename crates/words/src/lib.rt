@@ -1,5 +1,7 @@
 // The stated sizes and the words of the lent tables: whether sizes, tables and a record's fields fit, a record's place, nodes in use, link words made and read, the order
 // of nodes, the swap. A word past the end of a table reads as 0, and writing it changes nothing. Rests on the place table's words.
+#![tactic(auto)]
+
 ghost use Rattle.std.specs.Prelude.{◌≡◌, ◌%◌, ◌<◌, get_or, set};
 ghost use Rattle.table.specs.Words.{Memory, links≔, link_word, target_of, is_marked, in_use, rank, rank_of};
 ghost use Rattle.table.specs.Steps.{in_range};
@@ -10,7 +12,7 @@ ghost use Rattle.words.specs.LentWords.{slot_of, compared_of, link_met, swap_lef
 use record::{Address, FAIL, FINDS, HEAD, NO_ANSWER, NO_NODE, Node, Process, Record, TAIL};
 
 // The stated sizes, and the count of nodes given out.
-#[derive(Drop)]
+#[derive(Clone, Copy)]
 pub struct Sizes {
     pub nodes: u32,
     pub processes: u32,
@@ -18,14 +20,14 @@ pub struct Sizes {
 }
 
 // How a node stands to an address.
-#[derive(Drop)]
+#[derive(Clone, Copy)]
 pub struct Compared {
     pub below: bool,
     pub equal: bool,
 }
 
 // What reading a link meets: whether its target is in use, and then target and mark.
-#[derive(Drop)]
+#[derive(Clone, Copy)]
 pub struct LinkRead {
     pub accepted: bool,
     pub target: Node,
@@ -33,7 +35,7 @@ pub struct LinkRead {
 }
 
 // What a swap comes to: whether it wrote, and the word found.
-#[derive(Drop)]
+#[derive(Clone, Copy)]
 pub struct Swapped {
     pub wrote: bool,
     pub found: u32,
