@@ -15,32 +15,32 @@ module _ {ℓ κ} {A : Type ℓ} (P : A → Type κ) where
   if true f g = f refl
   if false f g = g refl
 
-  pub if-eq : (a b : ℕ) {x y : A} → (a ≡ b → P x) → (a ≢ b → P y) → P (cond (eqb a b) x y)
-  if-eq a b f g = if (eqb a b) (λ e. f (eqb-true a b e)) (λ e. g (eqb-false a b e))
+  pub if_eq : (a b : ℕ) {x y : A} → (a ≡ b → P x) → (a ≢ b → P y) → P (cond (eqb a b) x y)
+  if_eq a b f g = if (eqb a b) (λ e. f (eqb-true a b e)) (λ e. g (eqb-false a b e))
 
-  pub if-ne : (a b : ℕ) {x y : A} → (a ≢ b → P x) → (a ≡ b → P y) → P (cond (not (eqb a b)) x y)
-  if-ne a b f g = if (not (eqb a b)) (λ e. f (eqb-false a b (not-true (eqb a b) e))) (λ e. g (eqb-true a b (not-false (eqb a b) e)))
+  pub if_ne : (a b : ℕ) {x y : A} → (a ≢ b → P x) → (a ≡ b → P y) → P (cond (not (eqb a b)) x y)
+  if_ne a b f g = if (not (eqb a b)) (λ e. f (eqb-false a b (not-true (eqb a b) e))) (λ e. g (eqb-true a b (not-false (eqb a b) e)))
 
-  pub if-lt : (a b : ℕ) {x y : A} → (a < b → P x) → (b ≤ a → P y) → P (cond (ltb a b) x y)
-  if-lt a b f g = if (ltb a b) (λ e. f (ltb-true a b e)) (λ e. g (ltb-false a b e))
+  pub if_lt : (a b : ℕ) {x y : A} → (a < b → P x) → (b ≤ a → P y) → P (cond (ltb a b) x y)
+  if_lt a b f g = if (ltb a b) (λ e. f (ltb-true a b e)) (λ e. g (ltb-false a b e))
 
-  pub if-le : (a b : ℕ) {x y : A} → (a ≤ b → P x) → (b < a → P y) → P (cond (leb a b) x y)
-  if-le a b f g = if (leb a b) (λ e. f (leb-true a b e)) (λ e. g (leb-false a b e))
+  pub if_le : (a b : ℕ) {x y : A} → (a ≤ b → P x) → (b < a → P y) → P (cond (leb a b) x y)
+  if_le a b f g = if (leb a b) (λ e. f (leb-true a b e)) (λ e. g (leb-false a b e))
 
   -- two tests joined
-  pub if-or : (a b : Bool) {x y : A} → (a ≡ true → P x) → (b ≡ true → P x) → (a ≡ false → b ≡ false → P y) → P (cond (a || b) x y)
-  if-or true b f g h = f refl
-  if-or false true f g h = g refl
-  if-or false false f g h = h refl refl
+  pub if_or : (a b : Bool) {x y : A} → (a ≡ true → P x) → (b ≡ true → P x) → (a ≡ false → b ≡ false → P y) → P (cond (a || b) x y)
+  if_or true b f g h = f refl
+  if_or false true f g h = g refl
+  if_or false false f g h = h refl refl
 
-  if-and : (a b : Bool) {x y : A} → (a ≡ true → b ≡ true → P x) → (a ≡ false → P y) → (b ≡ false → P y) → P (cond (a && b) x y)
-  if-and true true f g h = f refl refl
-  if-and true false f g h = h refl
-  if-and false b f g h = g refl
+  if_and : (a b : Bool) {x y : A} → (a ≡ true → b ≡ true → P x) → (a ≡ false → P y) → (b ≡ false → P y) → P (cond (a && b) x y)
+  if_and true true f g h = f refl refl
+  if_and true false f g h = h refl
+  if_and false b f g h = g refl
 
-  pub if-within : (m n k : ℕ) {x y : A} → (m ≤ n → n ≤ k → P x) → ((n < m) ⊎ (k < n) → P y) → P (cond (leb m n && leb n k) x y)
-  if-within m n k f g =
-      if-and (leb m n) (leb n k)
+  pub if_within : (m n k : ℕ) {x y : A} → (m ≤ n → n ≤ k → P x) → ((n < m) ⊎ (k < n) → P y) → P (cond (leb m n && leb n k) x y)
+  if_within m n k f g =
+      if_and (leb m n) (leb n k)
       (λ s t. f (leb-true m n s) (leb-true n k t)) (λ s. g (inl (leb-false m n s))) (λ t. g (inr (leb-false n k t)))
 
 -- any goal, by a test's two cases

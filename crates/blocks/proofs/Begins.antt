@@ -10,9 +10,9 @@ use Rattle.record.specs.declared.Record.{Record}
 use Rattle.record.specs.declared.Outcome.TheVariants as outcome
 use Rattle.table.specs.Words.{Memory, lengths, fresh_memory}
 use Rattle.table.specs.Events.{State, state_of, fresh, sizes_fit}
-use Rattle.basics.proofs.Tests.{if, if-lt}
+use Rattle.basics.proofs.Tests.{if, if_lt}
 use Rattle.table.proofs.Laws.Fitting.{limits_of, LongEnough, long_for_fewer, Beyond, room_fresh, fit_of}
-use Rattle.table.proofs.Laws.Sizes.{longerState}
+use Rattle.table.proofs.Laws.Sizes.{longer_state}
 use Rattle.words.specs.LentMemory.{sized, sizes_of}
 use Rattle.fresh.specs.Fresh.{TablesLeft, fresh_sizes, laid_over, fresh_fits, tables_left, fresh_tables}
 use Rattle.fresh.specs.declared.Made.{Made}
@@ -34,7 +34,7 @@ use Rattle.text.specs.Text.{line}
 use Rattle.run.specs.declared.Phase.TheVariants.{Acting}
 use Rattle.run.specs.Output.{played, output}
 use Rattle.run.specs.Pieces.{World, world, run_of, table_of, fresh_row, refusing, start_of, begins}
-use Rattle.run.proofs.Steps.{begin-got, begin-refused}
+use Rattle.run.proofs.Steps.{begin_got, begin_refused}
 use Rattle.blocks.specs.ToCome.{to_come}
 use Rattle.blocks.proofs.Comes.{Numbered, acts, come_refusing}
 use Rattle.blocks.proofs.Longer.{Sound, played_longer}
@@ -62,7 +62,7 @@ HeaderHas s (header.Refused n) = Unit
 header_has : (s : List ℕ) (c : Cursor) → HeaderHas s (header_at s c)
 unfolding header_at
 header_has s c =
-    if-lt (λ (r : Read Header). HeaderHas s (header_read (place_in s) r)) 65536 (length s)
+    if_lt (λ (r : Read Header). HeaderHas s (header_read (place_in s) r)) 65536 (length s)
     (λ long. tt)
     (λ short. by short (read_header (drop c.at s)) (sizes_fit_lem (drop c.at s)))
   where
@@ -73,17 +73,17 @@ header_has s c =
 -- ---- fresh tables
 
 module _ (nodes processes : ℕ) (fit : sizes_fit nodes processes ≡ true) where
-  fresh-sound : Sound (fresh nodes processes)
+  fresh_sound : Sound (fresh nodes processes)
   unfolding fresh fresh_memory
-  fresh-sound = record {
+  fresh_sound = record {
     room = room_fresh nodes processes (limits_of nodes processes fit).two;
     row = omega (arith, length-replicate processes fresh_record);
   }
 
   -- tables of 4,096 words are long enough
-  fits-long : (m : Memory) → LongEnough 4096 (lengths m) → fresh_fits (sized (fresh_sizes nodes processes) m) ≡ true
+  fits_long : (m : Memory) → LongEnough 4096 (lengths m) → fresh_fits (sized (fresh_sizes nodes processes) m) ≡ true
   unfolding fresh_memory lengths
-  fits-long m long =
+  fits_long m long =
       let k = limits_of nodes processes fit in
       fit_of (sized (fresh_sizes nodes processes) m) fit
       (record { long = long_for_fewer nodes 4096 (lengths m) k.few long; least = omega arith; most = k.two })
@@ -99,23 +99,23 @@ start_numbered s m next (Refused n) short none z = omega (arith, acts _ z)
 
 -- a run begun, by the header read
 module _ (s : List ℕ) (m : Memory) where
-  abbrev madeFor : Header → TablesLeft
-  madeFor h = fresh_tables (sized (fresh_sizes h.nodes h.processes) m)
+  abbrev made_for : Header → TablesLeft
+  made_for h = fresh_tables (sized (fresh_sizes h.nodes h.processes) m)
 
-  begun-got : (h : Header) (next : Cursor) → header_at s start ≡ header.Got h next
-      → world (madeFor h).memory (start_of next (madeFor h).answer) ≡ begins s m
-  begun-got h next e = begin-got s m (header_at s start) _ refl (madeFor h).memory h next (madeFor h).answer e refl refl
+  begun_got : (h : Header) (next : Cursor) → header_at s start ≡ header.Got h next
+      → world (made_for h).memory (start_of next (made_for h).answer) ≡ begins s m
+  begun_got h next e = begin_got s m (header_at s start) _ refl (made_for h).memory h next (made_for h).answer e refl refl
 
-  begun-refused : (n : ℕ) → header_at s start ≡ header.Refused n → world m (refusing n) ≡ begins s m
-  begun-refused n e = begin-refused s m (header_at s start) (refusing n) refl n e refl
+  begun_refused : (n : ℕ) → header_at s start ≡ header.Refused n → world m (refusing n) ≡ begins s m
+  begun_refused n e = begin_refused s m (header_at s start) (refusing n) refl n e refl
 
-  pub begin-numbered : Numbered s (begins s m)
-  begin-numbered = by (header_at s start) refl (header_has s start)
+  pub begin_numbered : Numbered s (begins s m)
+  begin_numbered = by (header_at s start) refl (header_has s start)
     where
       by : (r : HeaderRead) → header_at s start ≡ r → HeaderHas s r → Numbered s (begins s m)
       by (header.Got h next) e has =
-          subst (Numbered s) (begun-got h next e) (start_numbered s (madeFor h).memory next (madeFor h).answer has.0 has.1)
-      by (header.Refused n) e has = subst (Numbered s) (begun-refused n e) (λ z. omega (arith, acts _ z))
+          subst (Numbered s) (begun_got h next e) (start_numbered s (made_for h).memory next (made_for h).answer has.0 has.1)
+      by (header.Refused n) e has = subst (Numbered s) (begun_refused n e) (λ z. omega (arith, acts _ z))
 
 -- ---- the whole output is to come
 
@@ -147,43 +147,43 @@ module _ (s : List ℕ) (m : Memory) (long : LongEnough 4096 (lengths m)) (h : H
   abbrev begun : World
   begun = world (laid_over new m) (run_of Acting next (sizes_of new) 0 fresh_row)
 
-  made-fresh : madeFor s m h ≡ tables_left begun.memory (Fresh (sizes_of new))
+  made_fresh : made_for s m h ≡ tables_left begun.memory (Fresh (sizes_of new))
   unfolding fresh_tables
-  made-fresh = rw (fits-long h.nodes h.processes fit m long)
+  made_fresh = rw (fits_long h.nodes h.processes fit m long)
 
-  begins-fresh : header_at s start ≡ header.Got h next → begins s m ≡ begun
+  begins_fresh : header_at s start ≡ header.Got h next → begins s m ≡ begun
   unfolding start_of
-  begins-fresh e = sym (begun-got s m h next e) ∙ ap (λ (x : TablesLeft). world x.memory (start_of next x.answer)) made-fresh
+  begins_fresh e = sym (begun_got s m h next e) ∙ ap (λ (x : TablesLeft). world x.memory (start_of next x.answer)) made_fresh
 
   abbrev spare : List Record
   spare = replicate (64 - h.processes) fresh_record
 
-  row-longer : fresh_row ≡ σ.row ++ spare
+  row_longer : fresh_row ≡ σ.row ++ spare
   unfolding fresh
-  row-longer =
+  row_longer =
       let all : h.processes + (64 - h.processes) ≡ 64 = omega (arith, (limits_of h.nodes h.processes fit).few_processes) in
       rw (replicate-append-replicate, all)
 
-  table-longer : table_of begun ≡ longerState (past new m) spare σ
+  table_longer : table_of begun ≡ longer_state (past new m) spare σ
   unfolding fresh
-  table-longer = ap (λ (row : List Record). state_of (table_of begun).memory row) row-longer
+  table_longer = ap (λ (row : List Record). state_of (table_of begun).memory row) row_longer
 
-  come-fresh : to_come s begun ≡ played 0 σ (comes s next) (ends s next)
+  come_fresh : to_come s begun ≡ played 0 σ (comes s next) (ends s next)
   unfolding to_come
-  come-fresh =
-      ap (λ (τ : State). played 0 τ (comes s next) (ends s next)) table-longer
-      ∙ played_longer (past new m) spare 0 σ (comes s next) (ends s next) (fresh-sound h.nodes h.processes fit)
+  come_fresh =
+      ap (λ (τ : State). played 0 τ (comes s next) (ends s next)) table_longer
+      ∙ played_longer (past new m) spare 0 σ (comes s next) (ends s next) (fresh_sound h.nodes h.processes fit)
 
 pub begin_comes : (s : List ℕ) (m : Memory) → LongEnough 4096 (lengths m) → to_come s (begins s m) ≡ output s
 begin_comes s m long = by (header_at s start) refl (header_has s start) (header_tells s start refl)
   where
     by : (r : HeaderRead) → header_at s start ≡ r → HeaderHas s r → HeaderAnswer (read_file s) s r → to_come s (begins s m) ≡ output s
     by (header.Got h next) e has t =
-        ap (to_come s) (begins-fresh s m long h next has.2 e)
-        ∙ come-fresh s m long h next has.2
+        ap (to_come s) (begins_fresh s m long h next has.2 e)
+        ∙ come_fresh s m long h next has.2
         ∙ (λ i. played 0 (fresh h.nodes h.processes) (t.2 i) (t.3 i))
         ∙ sym (output_file s h t.0 t.1)
     by (header.Refused n) e has t =
-        ap (to_come s) (sym (begun-refused s m n e))
+        ap (to_come s) (sym (begun_refused s m n e))
         ∙ come_refusing s (world m (refusing n)) n refl
         ∙ sym (output_bad s n t.0)

@@ -18,17 +18,17 @@ module _ (file : List ℕ) (w : World) (numbered : Numbered file w) (block : Lis
   fill_gives = came (next_piece file) (Numbered file) (to_come file) (run_gives file) (suc (length block)) w block 0 (omega arith) numbered
 
   -- by as many bytes as were filled
-  pub falls-by : length (to_come file w) ≡ (fills file w block).count + length (to_come file (fills file w block).state)
-  falls-by =
+  pub falls_by : length (to_come file w) ≡ (fills file w block).count + length (to_come file (fills file w block).state)
+  falls_by =
       sym (ap length fill_gives.whole_is)
       ∙ (length-append (filled (fills file w block)) (to_come file (fills file w block).state)
       ∙ ap (λ (k : ℕ). k + length (to_come file (fills file w block).state)) (length-take-le (fills file w block).count (fills file w block).block
       fill_gives.within))
 
   -- 64 bytes are room enough
-  pub gets-on : 64 ≤ length block → (0 < (fills file w block).count) ⊎ (to_come file w ≡ [])
+  pub gets_on : 64 ≤ length block → (0 < (fills file w block).count) ⊎ (to_come file w ≡ [])
   unfolding fills
-  gets-on room =
+  gets_on room =
       ⊎_elim (λ l. inl l) (λ e. inr ((run_gives file).on_nothing w numbered e))
       (moves (next_piece file) (Numbered file) (to_come file) (run_gives file) (length block) w block 0 (omega arith) numbered (omega arith))
 
@@ -40,7 +40,7 @@ falls file w block x e numbered some =
     let n : x.count ≡ y.count = (λ i. (e i).count) in
     let s : x.state ≡ y.state = (λ i. (e i).state) in (
       subst (Numbered file) (sym s) (fill_gives file w numbered block).still,
-      omega (arith, falls-by file w numbered block, ap (λ (t : World). length (to_come file t)) s),
+      omega (arith, falls_by file w numbered block, ap (λ (t : World). length (to_come file t)) s),
     )
 
 no_bytes : (l : List ℕ) → length l ≤ 0 → [] ≡ l
@@ -55,7 +55,7 @@ written_is (suc turns) file blocks w room numbered few =
     let x = fills file w (blocks 0) in
     let c = fill_gives file w numbered (blocks 0) in
     let fewer : length (to_come file x.state) ≤ turns =
-    ⊎_elim (λ (l : 0 < x.count). omega (arith, falls-by file w numbered (blocks 0)))
-    (λ (e : to_come file w ≡ []). omega (arith, falls-by file w numbered (blocks 0), ap length e)) (gets-on file w numbered (blocks 0) (room 0)) in
+    ⊎_elim (λ (l : 0 < x.count). omega (arith, falls_by file w numbered (blocks 0)))
+    (λ (e : to_come file w ≡ []). omega (arith, falls_by file w numbered (blocks 0), ap length e)) (gets_on file w numbered (blocks 0) (room 0)) in
     ap (λ (l : List ℕ). filled x ++ l) (written_is turns file (λ i. blocks (suc i)) x.state (λ i. room (suc i)) c.still fewer)
     ∙ c.whole_is

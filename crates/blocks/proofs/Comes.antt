@@ -16,7 +16,7 @@ use Rattle.record.specs.declared.Outcome.TheVariants as outcome
 use Rattle.table.specs.Words.{address_at}
 use Rattle.table.specs.Chain.{Ahead, onto, tail_ahead, not_in_use, not_above, ahead, nodes_after, chain, chain_addresses}
 use Rattle.table.specs.Events.{State, event, runs, outcomes}
-use Rattle.table.proofs.Laws.Ahead.{walk_on, nodes-after}
+use Rattle.table.proofs.Laws.Ahead.{walk_on, nodes_after_lem}
 use Rattle.schedule.specs.declared.EventRead.{EventRead}
 use Rattle.schedule.specs.declared.EventRead.TheVariants as read
 use Rattle.schedule.specs.Cursors.{event_at}
@@ -134,19 +134,19 @@ module _ (file : List ℕ) (w : World) where
   addresses nodes = map (λ n. address (address_at (memory_of w) n)) nodes
 
   -- by what lies ahead
-  walks-by : (x : Ahead) → Told file (text (addresses (walk_on (memory_of w).count (memory_of w) x))) (put_ahead w x)
+  walks_by : (x : Ahead) → Told file (text (addresses (walk_on (memory_of w).count (memory_of w) x))) (put_ahead w x)
   unfolding to_come addresses_text
-  walks-by (onto n) =
+  walks_by (onto n) =
       ((λ z. omega (arith, acts _ z)), append_assoc (space ∷ decimal (address_at (memory_of w) n)) _ (newline ∷ []), omega arith)
-  walks-by tail_ahead = ((λ z. omega (arith, acts _ z)), refl, omega arith)
-  walks-by not_in_use = ((λ z. omega (arith, acts _ z)), refl, omega arith)
-  walks-by not_above = ((λ z. omega (arith, acts _ z)), refl, omega arith)
+  walks_by tail_ahead = ((λ z. omega (arith, acts _ z)), refl, omega arith)
+  walks_by not_in_use = ((λ z. omega (arith, acts _ z)), refl, omega arith)
+  walks_by not_above = ((λ z. omega (arith, acts _ z)), refl, omega arith)
 
   walks : (n : Node) → Told file (text (addresses (nodes_after (memory_of w) n))) (address_next w n)
   unfolding address_next
   walks n =
       let m = memory_of w in
-      subst (λ rest. Told file (text (addresses rest)) (put_ahead w (ahead m n))) (sym (nodes-after m n)) (walks-by (ahead m n))
+      subst (λ rest. Told file (text (addresses rest)) (put_ahead w (ahead m n))) (sym (nodes_after_lem m n)) (walks_by (ahead m n))
 
 -- ---- every phase
 

@@ -5,12 +5,12 @@ use mathlib.Core.List.{List, ◌++◌, append_assoc}
 use Prim.Native.Nat.{ℕ, ◌+◌}
 use lib.ListN.{length}
 use Rattle.table.specs.Events.{fresh, runs, outcomes}
-use Rattle.table.proofs.Reached.States.{chain-listed}
+use Rattle.table.proofs.Reached.States.{chain_listed}
 use Rattle.schedule.specs.declared.Header.{Header}
 use Rattle.schedule.specs.Encoding.{events_of}
 use Rattle.schedule.specs.Reading.{Reading, file, read_file}
 use Rattle.files.specs.Fits.{Bytes}
-use Rattle.files.proofs.Demand3.{demand-3-files, file-reached}
+use Rattle.files.proofs.Demand3.{demand_3_files, file_reached}
 use Rattle.run.specs.Output.{lines, stop_line, played}
 use Rattle.blocks.specs.LastLine.{LastLine}
 use Rattle.blocks.proofs.Begins.{output_file}
@@ -22,8 +22,8 @@ last_line_lists_the_chain s bytes h x e =
     let start = fresh h.nodes h.processes in
     record {
       end = runs start events;
-      is = (demand-3-files s bytes h x e).end;
+      is = (demand_3_files s bytes h x e).end;
       before = lines 0 (outcomes start events) ++ stop_line (0 + length events) x.ended;
       lines = output_file s h x e ∙ rw append_assoc;
-      listed = chain-listed (file-reached s bytes h x e);
+      listed = chain_listed (file_reached s bytes h x e);
     }

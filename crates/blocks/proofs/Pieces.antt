@@ -64,15 +64,15 @@ module _ {S : Type 0} (next : S → NextPiece S) (P : S → Type 0) (rest : S �
   came zero s block at h p = record { whole_is = refl; within = h; grown = omega arith; still = p }
   came (suc turns) s block at h p = by_next turns s block at h p (came turns) (ltb (length block - at) 64) (next s) refl
 
-  with-room : (turns : ℕ) (s : S) (block : List ℕ) (at : ℕ) → at ≤ length block → P s
+  with_room : (turns : ℕ) (s : S) (block : List ℕ) (at : ℕ) → at ≤ length block → P s
       → (x : NextPiece S) → next s ≡ x → (at < (turn turns s block at false x).count) ⊎ (next s ≡ nothing)
-  with-room turns s block at h p (piece bytes t) e =
+  with_room turns s block at h p (piece bytes t) e =
       let q = g.on_piece s bytes t p e in
       inl (omega (arith, q.2, (came turns t (laid bytes block at) (at + length bytes) (laid_length block at bytes h) q.0).grown))
-  with-room turns s block at h p nothing e = inr e
+  with_room turns s block at h p nothing e = inr e
 
   -- a block with room for a piece gets one, where there is one
   pub moves : (turns : ℕ) (s : S) (block : List ℕ) (at : ℕ) → at ≤ length block → P s → 64 ≤ length block - at
       → (at < (fill_from next (suc turns) s block at).count) ⊎ (next s ≡ nothing)
   unfolding fill_from
-  moves turns s block at h p r = rw (le-ltb (length block - at) 64 r) (with-room turns s block at h p (next s) refl)
+  moves turns s block at h p r = rw (le-ltb (length block - at) 64 r) (with_room turns s block at h p (next s) refl)

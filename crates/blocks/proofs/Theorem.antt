@@ -12,7 +12,7 @@ use Rattle.run.specs.Output.{output}
 use Rattle.run.specs.Pieces.{begins}
 use Rattle.blocks.specs.ToCome.{blocks_written}
 use Rattle.blocks.proofs.Blocks.{written_is}
-use Rattle.blocks.proofs.Begins.{begin-numbered, begin_comes}
+use Rattle.blocks.proofs.Begins.{begin_numbered, begin_comes}
 
 -- Lent tables of 4,096 words or more are long enough for any header.
 pub blocks_are_output : (file : List ℕ) (m : Memory) → long_enough 4096 (lengths m) ≡ true
@@ -20,4 +20,4 @@ pub blocks_are_output : (file : List ℕ) (m : Memory) → long_enough 4096 (len
     → blocks_written turns file blocks (begins file m) ≡ output file
 blocks_are_output file m long blocks room turns enough =
     let whole = begin_comes file m (long_of 4096 (lengths m) long) in
-    written_is turns file blocks (begins file m) room (begin-numbered file m) (omega (arith, ap length whole)) ∙ whole
+    written_is turns file blocks (begins file m) room (begin_numbered file m) (omega (arith, ap length whole)) ∙ whole

@@ -76,11 +76,11 @@ module _ {M : Type 1} {𝓤 : Ura M} {𝓛 : Logic 𝓤} {Γ : List (Item 𝓤)}
       (lends_slice 𝓛 R (named 3) (α ∷ []) (take n xs) b 0 room) $ await ! tt $ pick ! (λ γ. split ! $ move ! (2 ∷ 0 ∷ 1 ∷ []) $ k α γ))
 
   -- the lifetime is ended, and the records are had back with the row's last list before the others
-  pub had-back : (n : ℕ) (xs zs : List Record) (b α : ℕ) (γ : GName) → length zs ≡ length (take n xs)
+  pub had_back : (n : ℕ) (xs zs : List Record) (b α : ℕ) (γ : GName) → length zs ≡ length (take n xs)
       → Sq 𝓛 (‵ (cells (mem R) (zs ++ drop n xs) b 0) ∷ Γ) (runs C Λ E rest q)
       → Sq 𝓛 (‵ (flft (α ∷ []) full_share) ∷ ‵ (flent (α ∷ []) (Held R (length (take n xs)) b 0 γ)) ∷ ‵ (finally R γ zs)
       ∷ ‵ (cells (mem R) (drop n xs) b (at 0 size (length (take n xs)))) ∷ Γ) (runs C Λ E rest q)
-  had-back n xs zs b α γ len k =
+  had_back n xs zs b α γ len k =
       lft_end ! tt $
       use3 𝓛 (later (‵ ((Arr (mem R) (length (take n xs))).own_at zs b 0))) (slice_back 𝓛 R (α ∷ []) γ zs (length (take n xs)) b 0) $
       await ! tt $ fsplit ! $ let_go ! $

@@ -6,7 +6,7 @@ mod reading;
 mod writing;
 
 ghost use Rattle.std.specs.Prelude.{◌≡◌, ◌≤◌, take, drop};
-ghost use Rattle.table.specs.Events.{state_of, leaves_in, event as eventIn};
+ghost use Rattle.table.specs.Events.{state_of, leaves_in, event as event_in};
 ghost use Rattle.words.specs.LentMemory.{lent_memory};
 ghost use Rattle.cases.specs.Block.{Gathered, block_bytes, half_block};
 ghost use Rattle.cases.specs.Lengths.{FewWords};
@@ -37,7 +37,7 @@ fn act_in_row(
     ensures { (leaves_in
         (state_of (lent_memory addresses.new links.new deleters.new result.said.sizes) (take lent result.records))
         result.said.outcome ≡
-        eventIn (state_of (lent_memory addresses.old links.old deleters.old sizes) (take lent records)) event)
+        event_in (state_of (lent_memory addresses.old links.old deleters.old sizes) (take lent records)) event)
         × (drop lent result.records ≡ drop lent records) }
 {
     let mut row = records;

@@ -21,7 +21,7 @@ use Rattle.chain.specs.declared.Ahead.TheVariants.{Next}
 use Rattle.chain.specs.declared.Keys.TheVariants.{Read, Refused}
 use Rattle.chain.specs.Walking.{ahead_from}
 use Rattle.chain.specs.Keys.{BufferLeft, buffer_left, numbers, read_keys, keys_of}
-use Rattle.chain.proofs.Walks.{Stops, told-next, goes_to, ends_at}
+use Rattle.chain.proofs.Walks.{Stops, told_next, goes_to, ends_at}
 
 -- ---- lists: what is known of l where a part of it begins with x
 
@@ -29,11 +29,11 @@ module _ {A : Type 0} where
   below_length : (i : ℕ) (l : List A) (x : A) (xs : List A) → drop i l ≡ x ∷ xs → i < length l
   below_length i l x xs e = let h : length (drop i l) ≡ suc (length xs) = ap length e in omega (arith, length-drop i l)
 
-  take-one-more : (i : ℕ) (l : List A) (x : A) (xs : List A) → drop i l ≡ x ∷ xs → take (i + 1) l ≡ take i l ++ (x ∷ [])
-  take-one-more i l x xs e = take-add i 1 l ∙ ap (λ r. take i l ++ take 1 r) e
+  take_one_more : (i : ℕ) (l : List A) (x : A) (xs : List A) → drop i l ≡ x ∷ xs → take (i + 1) l ≡ take i l ++ (x ∷ [])
+  take_one_more i l x xs e = take-add i 1 l ∙ ap (λ r. take i l ++ take 1 r) e
 
-  drop-one-more : (i : ℕ) (l : List A) (x : A) (xs : List A) → drop i l ≡ x ∷ xs → drop (i + 1) l ≡ xs
-  drop-one-more i l x xs e = sym (drop-drop 1 i l) ∙ ap (λ r. drop 1 r) e
+  drop_one_more : (i : ℕ) (l : List A) (x : A) (xs : List A) → drop i l ≡ x ∷ xs → drop (i + 1) l ≡ xs
+  drop_one_more i l x xs e = sym (drop-drop 1 i l) ∙ ap (λ r. drop 1 r) e
 
 drop_map : {A B : Type 0} (f : A → B) (i : ℕ) (l : List A) → drop i (map f l) ≡ map f (drop i l)
 drop_map f zero l = refl
@@ -81,18 +81,18 @@ one_word_more keys before read x xs room e =
 
 module _ (m : Memory) (before buffer : List ℕ) (from : Node) (read : ℕ) (w : ReadAlong m before buffer from read) (x : Ahead)
     (told : x ≡ ahead_from m from) where
-  along-on : (next : Node) (a : Address) → x ≡ Next next a → read < length before → ReadAlong m before (set buffer read a.0) next (read + 1)
-  along-on next a is room =
+  along_on : (next : Node) (a : Address) → x ≡ Next next a → read < length before → ReadAlong m before (set buffer read a.0) next (read + 1)
+  along_on next a is room =
       let left = nodes_after m next in
-      let named : address_at m next ≡ a.0 = ap (λ (a : Address). a.0) (sym (told-next m from x told next a is).1) in
+      let named : address_at m next ≡ a.0 = ap (λ (a : Address). a.0) (sym (told_next m from x told next a is).1) in
       let part : drop read (chain m) ≡ next ∷ left = sym w.rest ∙ goes_to m from x told next a is in
       let keys : drop read (keys_on m) ≡ a.0 ∷ map (λ n. address_at m n) left
       = ap (drop read) (keys_on_lem m) ∙ drop_map (λ n. address_at m n) read (chain m) ∙ ap (map (λ n. address_at m n)) part ∙ rw named in
       record {
         passed = let h = below_length read (chain m) next _ part in omega arith;
         words = ap (λ b. set b read a.0) w.words ∙ one_word_more (keys_on m) before read a.0 _ room keys;
-        stands = sym (ap (last_of head_node) (take-one-more read (chain m) next _ part) ∙ last_of_more head_node (take read (chain m)) next);
-        rest = sym (drop-one-more read (chain m) next _ part);
+        stands = sym (ap (last_of head_node) (take_one_more read (chain m) next _ part) ∙ last_of_more head_node (take read (chain m)) next);
+        rest = sym (drop_one_more read (chain m) next _ part);
       }
 
   -- what was read is all that there was room for
@@ -103,11 +103,11 @@ module _ (m : Memory) (before buffer : List ℕ) (from : Node) (read : ℕ) (w :
       let long : length (take read (keys_on m)) ≡ read = length-take-le read (keys_on m) (omega (arith, keys_long m, w.passed)) in
       rw (all ℕ (keys_on m) (keys_long m), long, all Node (chain m) refl, told, w.words, w.stands)
 
-  along-full : read ≡ length before → buffer_left buffer (Read read x) ≡ read_keys m before
-  along-full full = ends (λ A l same. rw (sym full))
+  along_full : read ≡ length before → buffer_left buffer (Read read x) ≡ read_keys m before
+  along_full full = ends (λ A l same. rw (sym full))
 
-  along-ends : read ≤ length before → Stops x → buffer_left buffer (Read read x) ≡ read_keys m before
-  along-ends room stops =
+  along_ends : read ≤ length before → Stops x → buffer_left buffer (Read read x) ≡ read_keys m before
+  along_ends room stops =
       let none : drop read (chain m) ≡ [] = sym w.rest ∙ ends_at m from x told stops in
       let short : length (drop read (chain m)) ≡ 0 = ap length none in
       let most : length (chain m) ≤ read = omega (arith, length-drop read (chain m)) in
@@ -127,23 +127,23 @@ module _ (addresses links : List ℕ) (sizes : Sizes) (before : List ℕ) where
     pub long : length buffer ≡ length before
     pub along : (m : Memory) → ReadAlong (Lent m) before buffer from read
 
-  pub read-start : ReadSoFar before head_node 0
-  read-start = record { room = omega arith; long = refl; along = λ m. along_start (Lent m) before }
+  pub read_start : ReadSoFar before head_node 0
+  read_start = record { room = omega arith; long = refl; along = λ m. along_start (Lent m) before }
 
   module _ (buffer : List ℕ) (from : Node) (read : ℕ) (w : ReadSoFar buffer from read) (x : Ahead)
       (told : (m : Memory) → x ≡ ahead_from (Lent m) from) where
-    pub read-on : (next : Node) (a : Address) → x ≡ Next next a → read < length before → ReadSoFar (set buffer read a.0) next (read + 1)
-    read-on next a is room = record {
+    pub read_on_lem : (next : Node) (a : Address) → x ≡ Next next a → read < length before → ReadSoFar (set buffer read a.0) next (read + 1)
+    read_on_lem next a is room = record {
       room = omega arith;
       long = length-set buffer read a.0 ∙ w.long;
-      along = λ m. along-on (Lent m) before buffer from read (w.along m) x (told m) next a is room;
+      along = λ m. along_on (Lent m) before buffer from read (w.along m) x (told m) next a is room;
     }
 
-    pub read-full : read ≡ length before → (m : Memory) → buffer_left buffer (Read read x) ≡ read_keys (Lent m) before
-    read-full full m = along-full (Lent m) before buffer from read (w.along m) x (told m) full
+    pub read_full : read ≡ length before → (m : Memory) → buffer_left buffer (Read read x) ≡ read_keys (Lent m) before
+    read_full full m = along_full (Lent m) before buffer from read (w.along m) x (told m) full
 
-    pub read-ends : Stops x → (m : Memory) → buffer_left buffer (Read read x) ≡ read_keys (Lent m) before
-    read-ends stops m = along-ends (Lent m) before buffer from read (w.along m) x (told m) w.room stops
+    pub read_ends : Stops x → (m : Memory) → buffer_left buffer (Read read x) ≡ read_keys (Lent m) before
+    read_ends stops m = along_ends (Lent m) before buffer from read (w.along m) x (told m) w.room stops
 
 -- ---- what the test of the tables tells
 
@@ -152,11 +152,11 @@ module _ (addresses links deleters : List ℕ) (sizes : Sizes) (buffer : List �
   lent = lent_memory addresses links deleters sizes
 
   module _ (told : fit ≡ tables_fit lent) where
-    pub keys-read : (x : BufferLeft) → fit ≡ true
+    pub keys_read : (x : BufferLeft) → fit ≡ true
         → ((m : Memory) → x ≡ read_keys (lent_in addresses links sizes m) buffer) → x ≡ keys_of lent buffer
     unfolding keys_of
-    keys-read x fits e = rw (sym told, fits) (e lent)
+    keys_read x fits e = rw (sym told, fits) (e lent)
 
-    pub keys-refused : fit ≡ false → buffer_left buffer (Refused 7) ≡ keys_of lent buffer
+    pub keys_refused : fit ≡ false → buffer_left buffer (Refused 7) ≡ keys_of lent buffer
     unfolding keys_of
-    keys-refused unfit = rw (sym told, unfit)
+    keys_refused unfit = rw (sym told, unfit)

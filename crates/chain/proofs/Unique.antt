@@ -17,8 +17,8 @@ module _ (addresses links : List ℕ) (sizes : Sizes) (from : Node) where
   abbrev Lent : Memory → Memory
   Lent = lent_in addresses links sizes
 
-  pub onward-unique : {a b : Ahead} → ((m : Memory) → a ≡ ahead_from (Lent m) from) → ((m : Memory) → b ≡ ahead_from (Lent m) from) → a ≡ b
-  onward-unique e h = let m = fresh_memory 2 1 in e m ∙ sym (h m)
+  pub onward_unique : {a b : Ahead} → ((m : Memory) → a ≡ ahead_from (Lent m) from) → ((m : Memory) → b ≡ ahead_from (Lent m) from) → a ≡ b
+  onward_unique e h = let m = fresh_memory 2 1 in e m ∙ sym (h m)
 
 pub chain_addresses_unique : (m : Memory) (buffer : List ℕ) {xs ys : List ℕ} {a b : Keys}
     → buffer_left xs a ≡ keys_of m buffer → buffer_left ys b ≡ keys_of m buffer → (xs ≡ ys) × (a ≡ b)

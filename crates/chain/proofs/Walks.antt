@@ -15,7 +15,7 @@ use Rattle.record.specs.declared.Address.{Address}
 use Rattle.table.specs.Words.{Memory, addresses≔, links≔, address_at, link_at, target_of, in_use, rank}
 use Rattle.table.specs.Chain as table
 use Rattle.table.specs.Chain.{onto, tail_ahead, not_in_use, not_above, ahead_of, ahead, nodes_after}
-use Rattle.table.proofs.Laws.Ahead.{walk_on, nodes-after}
+use Rattle.table.proofs.Laws.Ahead.{walk_on, nodes_after_lem}
 use Rattle.words.specs.declared.Sizes.{Sizes}
 use Rattle.words.specs.LentMemory.{sized}
 use Rattle.chain.specs.declared.Ahead.{Ahead}
@@ -29,20 +29,20 @@ module _ (addresses : List ℕ) (m : Memory) (target : Node) (tail used above : 
   abbrev Says : Ahead → Type 0
   Says x = x ≡ ahead_in (addresses≔ addresses m) (ahead_of target tail used above)
 
-  pub says-tail : tail ≡ true → Says Tail
-  says-tail e = rw e
+  pub says_tail : tail ≡ true → Says Tail
+  says_tail e = rw e
 
-  pub says-unused : tail ≡ false → used ≡ false → Says NotInUse
-  says-unused e f = rw (e, f)
+  pub says_unused : tail ≡ false → used ≡ false → Says NotInUse
+  says_unused e f = rw (e, f)
 
-  pub says-not-above : tail ≡ false → used ≡ true → above ≡ false → Says NotAbove
-  says-not-above e f g = rw (e, f, g)
+  pub says_not_above : tail ≡ false → used ≡ true → above ≡ false → Says NotAbove
+  says_not_above e f g = rw (e, f, g)
 
-  pub says-next : (word : ℕ) → word ≡ get_or addresses target.0 0 → tail ≡ false → used ≡ true → above ≡ true → Says (Next target (address word))
+  pub says_next : (word : ℕ) → word ≡ get_or addresses target.0 0 → tail ≡ false → used ≡ true → above ≡ true → Says (Next target (address word))
   unfolding address_at
-  says-next word is e f g = rw (e, f, g, is)
+  says_next word is e f g = rw (e, f, g, is)
 
-pub ruleset judged = (says-tail, says-unused, says-not-above, says-next, lt-ltb, le-ltb, eq-eqb, ne_eqb)
+pub ruleset judged = (says_tail, says_unused, says_not_above, says_next, lt-ltb, le-ltb, eq-eqb, ne_eqb)
 
 -- a target that is not in use may be asked where another node sorts
 said_of_used : (target other : Node) (tail used : Bool) (addresses : List ℕ) (at : ℕ) →
@@ -71,28 +71,28 @@ Stops x = OneOf (1 ∷ 2 ∷ 3 ∷ []) (tag_of the_type x)
 
 module _ (m : Memory) where
   -- a next node is told of a next node alone, with its address
-  next-onto : (x : table.Ahead) (n : Node) (a : Address) → ahead_in m x ≡ Next n a → (x ≡ onto n) × (a ≡ address (address_at m n))
-  next-onto (onto o) n a e = (cc, cc)
-  next-onto tail_ahead n a e = absurd (let z : ◌≡◌ {A = ℕ} 0 1 = cc in omega arith)
-  next-onto not_in_use n a e = absurd (let z : ◌≡◌ {A = ℕ} 0 1 = cc in omega arith)
-  next-onto not_above n a e = absurd (let z : ◌≡◌ {A = ℕ} 0 1 = cc in omega arith)
+  next_onto : (x : table.Ahead) (n : Node) (a : Address) → ahead_in m x ≡ Next n a → (x ≡ onto n) × (a ≡ address (address_at m n))
+  next_onto (onto o) n a e = (cc, cc)
+  next_onto tail_ahead n a e = absurd (let z : ◌≡◌ {A = ℕ} 0 1 = cc in omega arith)
+  next_onto not_in_use n a e = absurd (let z : ◌≡◌ {A = ℕ} 0 1 = cc in omega arith)
+  next_onto not_above n a e = absurd (let z : ◌≡◌ {A = ℕ} 0 1 = cc in omega arith)
 
-  stops-meet : (P : table.Ahead → Type 0) (x : table.Ahead) → Stops (ahead_in m x) → P tail_ahead → P not_in_use → P not_above → P x
-  stops-meet P (onto n) stops t u a = absurd (miss (1 ∷ 2 ∷ 3 ∷ []) 0 tt stops)
-  stops-meet P tail_ahead stops t u a = t
-  stops-meet P not_in_use stops t u a = u
-  stops-meet P not_above stops t u a = a
+  stops_meet : (P : table.Ahead → Type 0) (x : table.Ahead) → Stops (ahead_in m x) → P tail_ahead → P not_in_use → P not_above → P x
+  stops_meet P (onto n) stops t u a = absurd (miss (1 ∷ 2 ∷ 3 ∷ []) 0 tt stops)
+  stops_meet P tail_ahead stops t u a = t
+  stops_meet P not_in_use stops t u a = u
+  stops_meet P not_above stops t u a = a
 
   module _ (from : Node) (x : Ahead) (told : x ≡ ahead_from m from) where
-    pub told-next : (next : Node) (a : Address) → x ≡ Next next a → (ahead m from ≡ onto next) × (a ≡ address (address_at m next))
-    told-next next a e = next-onto (ahead m from) next a (sym told ∙ e)
+    pub told_next : (next : Node) (a : Address) → x ≡ Next next a → (ahead m from ≡ onto next) × (a ≡ address (address_at m next))
+    told_next next a e = next_onto (ahead m from) next a (sym told ∙ e)
 
-    pub told-stops : (P : table.Ahead → Type 0) → Stops x → P tail_ahead → P not_in_use → P not_above → P (ahead m from)
-    told-stops P stops t u a = stops-meet P (ahead m from) (subst Stops told stops) t u a
+    pub told_stops : (P : table.Ahead → Type 0) → Stops x → P tail_ahead → P not_in_use → P not_above → P (ahead m from)
+    told_stops P stops t u a = stops_meet P (ahead m from) (subst Stops told stops) t u a
 
     -- so the walk goes on, or ends
     pub goes_to : (next : Node) (a : Address) → x ≡ Next next a → nodes_after m from ≡ next ∷ nodes_after m next
-    goes_to next a e = nodes-after m from ∙ ap (walk_on m.count m) (told-next next a e).0
+    goes_to next a e = nodes_after_lem m from ∙ ap (walk_on m.count m) (told_next next a e).0
 
     pub ends_at : Stops x → nodes_after m from ≡ []
-    ends_at stops = nodes-after m from ∙ told-stops (λ y. walk_on m.count m y ≡ []) stops refl refl refl
+    ends_at stops = nodes_after_lem m from ∙ told_stops (λ y. walk_on m.count m y ≡ []) stops refl refl refl

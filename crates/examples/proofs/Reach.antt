@@ -12,7 +12,7 @@ use Rattle.record.specs.declared.Event.{Event}
 use Rattle.record.specs.declared.Outcome.{Outcome}
 use Rattle.record.specs.declared.Outcome.TheVariants.{Refused, Accepted, Answered}
 use Rattle.table.specs.Words.{lengths, address_at, link_at, deleter_at, in_use, rank, written, given_out, fresh_memory}
-use Rattle.table.specs.Places.{place_of, searchEnds, row}
+use Rattle.table.specs.Places.{place_of, search_ends, row}
 use Rattle.table.specs.Steps.{word_met, in_range, turn_in}
 use Rattle.table.specs.Events.{State, Leaves, fresh, runs, event, stored, record_in, act, refusal_in, tables_fit, sizes_fit, does, step}
 use Rattle.table.specs.Chain.{ahead, walk, chain, chain_addresses}
@@ -53,44 +53,44 @@ record Computed : Type 0 where
   claims_none : chain_addresses (event asked one_step).after.memory ≡ []
 
 computed : Computed
-unfolding fresh fresh_memory runs event stored record_in act refusal_in tables_fit sizes_fit does step turn_in in_range word_met row searchEnds
+unfolding fresh fresh_memory runs event stored record_in act refusal_in tables_fit sizes_fit does step turn_in in_range word_met row search_ends
     place_of written given_out rank in_use lengths address_at link_at deleter_at ahead walk chain chain_addresses
 computed = record { accepts = refl; inserts = refl; misses = refl; stood = refl; moves = refl; claims_none = refl }
 
 module _ (f : Machine) (keeps : KeepsPromise f) where
-  comes-to : (σ : State) (e : Event) (o : Outcome) → (event σ e).outcome ≡ o → (f σ e).outcome ≡ o
-  comes-to σ e o h = rw (keeps σ e) h
+  comes_to : (σ : State) (e : Event) (o : Outcome) → (event σ e).outcome ≡ o → (f σ e).outcome ≡ o
+  comes_to σ e o h = rw (keeps σ e) h
 
   -- "the constant refuser"
-  pub no-constant-refuser : (refusal : State → Event → ℕ) → ((σ : State) (e : Event) → (f σ e).outcome ≡ Refused (refusal σ e)) → ⊥
-  no-constant-refuser refusal refuses =
-      never (refusal empty (insert_by 0 485)) (sym (comes-to empty (insert_by 0 485) Accepted computed.accepts) ∙ refuses empty (insert_by 0 485))
+  pub no_constant_refuser : (refusal : State → Event → ℕ) → ((σ : State) (e : Event) → (f σ e).outcome ≡ Refused (refusal σ e)) → ⊥
+  no_constant_refuser refusal refuses =
+      never (refusal empty (insert_by 0 485)) (sym (comes_to empty (insert_by 0 485) Accepted computed.accepts) ∙ refuses empty (insert_by 0 485))
     where
       never : (n : ℕ) → Accepted ≡ Refused n → ⊥
       never n e = let z : ◌≡◌ {A = ℕ} 0 1 = cc in omega arith
 
   -- "the machine with one fixed answer"
-  pub no-fixed-answer : (v : ℕ) → ((σ : State) (e : Event) (w : ℕ) → (f σ e).outcome ≡ Answered w → w ≡ v) → ⊥
-  no-fixed-answer v fixed =
+  pub no_fixed_answer : (v : ℕ) → ((σ : State) (e : Event) (w : ℕ) → (f σ e).outcome ≡ Answered w → w ≡ v) → ⊥
+  no_fixed_answer v fixed =
       omega (
         arith,
-        fixed inserting one_step true_answer (comes-to inserting one_step (Answered true_answer) computed.inserts),
-        fixed deleting one_step false_answer (comes-to deleting one_step (Answered false_answer) computed.misses),
+        fixed inserting one_step true_answer (comes_to inserting one_step (Answered true_answer) computed.inserts),
+        fixed deleting one_step false_answer (comes_to deleting one_step (Answered false_answer) computed.misses),
       )
 
   -- "the step that changes nothing"
-  pub no-idle-step : ((σ : State) (p : Process) → (f σ (event_of p Step)).after ≡ σ) → ⊥
-  no-idle-step idles =
+  pub no_idle_step : ((σ : State) (p : Process) → (f σ (event_of p Step)).after ≡ σ) → ⊥
+  no_idle_step idles =
       let after = sym (ap (λ (x : Leaves). x.after) (keeps asked one_step)) ∙ idles asked (process 0) in
       let same = ap (λ (σ : State). (record_in σ (process 0)).lost.place) after in
       omega (arith, computed.stood, computed.moves)
 
   -- "the one that performs a whole operation at its first step and idles through the rest": a first step of an insert that claims the address
-  pub no-insert-at-once : chain_addresses (f asked one_step).after.memory ≡ address 485 ∷ [] → ⊥
-  no-insert-at-once claims =
+  pub no_insert_at_once : chain_addresses (f asked one_step).after.memory ≡ address 485 ∷ [] → ⊥
+  no_insert_at_once claims =
       let none = rw keeps at claims in
       let z : ◌≡◌ {A = ℕ} 0 1 = cc computed.claims_none in omega arith
 
   -- "a given-out count made up on the spot"
-  pub no-made-up-count : (σ : State) (e : Event) → (f σ e).after.memory.count ≡ count_after e.action (f σ e).outcome σ.memory.count
-  no-made-up-count σ e = rw (keeps σ e) (only_inserts_move_the_count σ e)
+  pub no_made_up_count : (σ : State) (e : Event) → (f σ e).after.memory.count ≡ count_after e.action (f σ e).outcome σ.memory.count
+  no_made_up_count σ e = rw (keeps σ e) (only_inserts_move_the_count σ e)

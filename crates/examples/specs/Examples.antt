@@ -10,7 +10,7 @@ use Rattle.record.specs.declared.Outcome.{Outcome}
 use Rattle.record.specs.declared.Outcome.TheVariants.{Refused, Accepted, Answered}
 use Rattle.record.specs.declared.Record.{Record}
 use Rattle.table.specs.Words.{lengths, address_at, link_at, deleter_at, is_marked, in_use, rank, written, given_out, fresh_memory}
-use Rattle.table.specs.Places.{place_of, searchEnds, row}
+use Rattle.table.specs.Places.{place_of, search_ends, row}
 use Rattle.table.specs.Steps.{word_met, in_range, turn_in}
 use Rattle.table.specs.Events.{fresh, outcomes, runs, event, stored, record_in, act, refusal_in, tables_fit, sizes_fit, does, step}
 use Rattle.numbers.specs.Numbers.{Read, got, stops, number_bytes, groups, read_number, more_groups, ◌then◌}
@@ -149,5 +149,5 @@ examples =
 
 pub examples_hold : map (λ w. shows w.example) examples ≡ map (λ w. w.wanted) examples
 unfolding shows number_bytes groups read_number more_groups ◌then◌ fresh fresh_memory outcomes runs event stored record_in act refusal_in tables_fit sizes_fit
-    does step turn_in in_range word_met row searchEnds place_of written given_out rank in_use lengths address_at link_at deleter_at
+    does step turn_in in_range word_met row search_ends place_of written given_out rank in_use lengths address_at link_at deleter_at
 examples_hold = refl

@@ -39,25 +39,25 @@ module _ (s : List ℕ) (h : Header) (items : List Item) (left : List ℕ) (n : 
   holds : Holds s h (reading items left n)
   holds = (reads_as s (file h (reading items left n)) bytes).0 e
 
-  next-refuses : next_item left ≡ refuses n
-  next-refuses = (refused_file s h items left n bytes not0 e).2
+  next_refuses : next_item left ≡ refuses n
+  next_refuses = (refused_file s h items left n bytes not0 e).2
 
   bytes_left : Bytes left
   bytes_left = bytes_after (items_bytes items) left (bytes_after (header_bytes h) (items_bytes items ++ left) (subst Bytes holds.bytes bytes))
 
   -- it has the same header, items and refusal whatever follows it, within the length
-  pub file-whatever-follows : (t : List ℕ) → length (s ++ t) ≤ 65536 → read_file (s ++ t) ≡ file h (reading items (left ++ t) n)
-  file-whatever-follows t short =
+  pub file_whatever_follows : (t : List ℕ) → length (s ++ t) ≤ 65536 → read_file (s ++ t) ≡ file h (reading items (left ++ t) n)
+  file_whatever_follows t short =
       file_read (s ++ t) h items (left ++ t) n short holds.header_fits holds.items_fit
       (longer² s (header_bytes h) (items_bytes items) left t holds.bytes)
-      (read_refused (left ++ t) n (refused_whatever_follows left t n bytes_left not4 next-refuses))
+      (read_refused (left ++ t) n (refused_whatever_follows left t n bytes_left not4 next_refuses))
 
   -- and every file that begins with the same bytes, up to the last one looked at, has the same header, items and refusal, within the length
-  pub file-by-bytes-looked-at : (x : Looked left n)
+  pub file_by_bytes_looked_at : (x : Looked left n)
       × ((t : List ℕ) → length (header_bytes h ++ (items_bytes items ++ (x.seen ++ t))) ≤ 65536
       → read_file (header_bytes h ++ (items_bytes items ++ (x.seen ++ t))) ≡ file h (reading items (x.seen ++ t) n))
-  file-by-bytes-looked-at =
-      let x : Looked left n = looked_at left n bytes_left not4 next-refuses in (
+  file_by_bytes_looked_at =
+      let x : Looked left n = looked_at left n bytes_left not4 next_refuses in (
         x,
         λ t short. file_read (header_bytes h ++ (items_bytes items ++ (x.seen ++ t))) h items (x.seen ++ t) n
             short holds.header_fits holds.items_fit refl (read_refused (x.seen ++ t) n (x.enough t)),

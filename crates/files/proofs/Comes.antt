@@ -12,7 +12,7 @@ use Rattle.record.specs.declared.Process.{Process}
 use Rattle.record.specs.Event.{event_of}
 use Rattle.record.specs.declared.Action.TheVariants.{Step}
 use Rattle.record.specs.declared.Event.{Event}
-use Rattle.basics.proofs.Tests.{if-lt}
+use Rattle.basics.proofs.Tests.{if_lt}
 use Rattle.numbers.specs.Numbers.{Read, got, stops}
 use Rattle.numbers.specs.ReadAt.{place_in}
 use Rattle.numbers.proofs.Follows.{Follows, left_at, left_follows, Refusal}
@@ -85,7 +85,7 @@ item_answers s c (burst p count) left l x f fits =
 pub event_tells : (s : List ℕ) (c : Cursor) → Answer s c (event_at s c)
 unfolding event_at events_of
 event_tells s c =
-    if-lt (Answer s c) 0 c.left
+    if_lt (Answer s c) 0 c.left
     (λ l. burst_answers s c l)
     (λ l. by_next l (next_item (drop c.at s)) refl (next (drop c.at s)))
   where
@@ -122,16 +122,16 @@ unfolding read_file header_at read_all
 header_tells s c e =
     subst (λ (r : List ℕ). HeaderAnswer (read_file s) s (header_read (place_in s) (cond (ltb 65536 (length s)) (stops 7) (read_header r))))
     (ap (λ (k : ℕ). drop k s) (sym e))
-    (by-header (ltb 65536 (length s)) (read_header s) (header_takes s))
+    (by_header (ltb 65536 (length s)) (read_header s) (header_takes s))
   where
-    by-header : (long : Bool) (r : Read Header) → TakesHeader s r
+    by_header : (long : Bool) (r : Read Header) → TakesHeader s r
         → HeaderAnswer (cond long (bad_header 7) (elim r [ got h left ↦ file h (read_all left) | stops n ↦ bad_header n ])) s
         (header_read (place_in s) (cond long (stops 7) r))
-    by-header true r t = (refl, omega arith, omega arith)
-    by-header false (got h left) t =
+    by_header true r t = (refl, omega arith, omega arith)
+    by_header false (got h left) t =
         let comes-now = comes_left s left (process 0) 0 (left_at s t.front left t.whole) in
         (read_all left, refl, comes-now.0, comes-now.1)
-    by-header false (stops n) t = (refl, t.0, t.1)
+    by_header false (stops n) t = (refl, t.0, t.1)
 
 -- ---- all of it, one answer after another
 
@@ -163,22 +163,22 @@ hands_out_all (suc turns) s c l = by_answer (λ next. hands_out_all turns s next
 pub file_handed_out : (s : List ℕ) (h : Header) (x : Reading) (start : Cursor) → start.at ≡ 0 → read_file s ≡ file h x
     → (c : Cursor) × (header_at s start ≡ header.Got h c)
     × ((turns : ℕ) → length (events_of x.items) < turns → handed_out turns s c ≡ handed (events_of x.items) (some x.ended))
-file_handed_out s h x start e is = by-header (header_at s start) (header_tells s start e)
+file_handed_out s h x start e is = by_header (header_at s start) (header_tells s start e)
   where
-    by-header : (r : HeaderRead) → HeaderAnswer (read_file s) s r
+    by_header : (r : HeaderRead) → HeaderAnswer (read_file s) s r
         → (c : Cursor) × (r ≡ header.Got h c)
         × ((turns : ℕ) → length (events_of x.items) < turns → handed_out turns s c ≡ handed (events_of x.items) (some x.ended))
-    by-header (header.Got found c) t =
+    by_header (header.Got found c) t =
         let whole : read_file s ≡ file found t.0 = t.1 in
-        let same-header : found ≡ h = cc in
+        let same_header : found ≡ h = cc in
         let same : t.0 ≡ x = cc in
         let events : comes s c ≡ events_of x.items = t.2 ∙ ap (λ (y : Reading). events_of y.items) same in
         let ended : ends s c ≡ x.ended = t.3 ∙ ap (λ (y : Reading). y.ended) same in (
           c,
-          ap (λ (k : Header). header.Got k c) same-header,
+          ap (λ (k : Header). header.Got k c) same_header,
           λ turns l. hands_out_all turns s c (omega (arith, ap length events)) ∙ (λ j. handed (events j) (some (ended j))),
         )
-    by-header (header.Refused n) t =
+    by_header (header.Refused n) t =
         let bad : read_file s ≡ bad_header n = t.0 in
         let z : ◌≡◌ {A = ℕ} 0 1 = cc in
         absurd (omega arith)

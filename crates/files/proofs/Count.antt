@@ -9,7 +9,7 @@ use Rattle.schedule.specs.Encoding.{Item, single, burst, events_of}
 use Rattle.schedule.specs.Reading.{Reading, read_all}
 use Rattle.files.specs.Comes.{comes}
 use Rattle.files.proofs.Follows.{CountFits}
-use Rattle.files.proofs.ReadAll.{item-by-item}
+use Rattle.files.proofs.ReadAll.{item_by_item}
 
 -- an item is at most 255 events
 item_few : (i : Item) (items : List Item) → CountFits i → length (events_of (i ∷ items)) ≤ 255 + length (events_of items)
@@ -23,7 +23,7 @@ Few s x = length (events_of x.items) ≤ 255 * length s
 items_few : (s : List ℕ) → Few s (read_all s)
 unfolding events_of
 items_few =
-    item-by-item Few (λ s e. omega arith)
+    item_by_item Few (λ s e. omega arith)
     (λ s i left e t few. omega (arith, follows_shorter t.0, item_few i (read_all left).items t.1))
     (λ s n e. omega arith)
 

@@ -14,7 +14,7 @@ use Rattle.table.specs.Events.{State, fresh, runs}
 use Rattle.table.specs.Demand3.{AddressesFit, Demand3Fresh}
 use Rattle.table.specs.Reached.{Reached}
 use Rattle.table.proofs.History.Demand3.{demand_3_fresh}
-use Rattle.table.proofs.History.Start.{fresh-quiet, runs_at, outcomes_at}
+use Rattle.table.proofs.History.Start.{fresh_quiet, runs_at, outcomes_at}
 use Rattle.schedule.specs.declared.Header.{Header}
 use Rattle.schedule.specs.Encoding.{Item, single, burst, events_of}
 use Rattle.schedule.specs.Reading.{Reading, file, read_file}
@@ -58,9 +58,9 @@ module _ (s : List ℕ) (bytes : Bytes s) (h : Header) (x : Reading) (e : read_f
   fit : AddressesFit (numbered events)
   fit t a q = subst AddressFits q (at_number events t (events_addressed x.items held.items_fit))
 
-  pub demand-3-files : FileOrdered h x
+  pub demand_3_files : FileOrdered h x
   unfolding Demand3Fresh
-  demand-3-files =
+  demand_3_files =
       let proved = demand_3_fresh h.nodes h.processes held.header_fits (numbered events) fit (length events) in
       record {
         order = proved.0;
@@ -70,11 +70,11 @@ module _ (s : List ℕ) (bytes : Bytes s) (h : Header) (x : Reading) (e : read_f
       }
 
   -- the state in which the run of a file ends is reached from a fresh list
-  pub file-reached : Reached (runs start events)
-  file-reached = record {
+  pub file_reached : Reached (runs start events)
+  file_reached = record {
     start = start;
     events = numbered events;
-    quiet = fresh-quiet h.nodes h.processes held.header_fits;
+    quiet = fresh_quiet h.nodes h.processes held.header_fits;
     fit = fit;
     time = length events;
     is = runs_at events start last;

@@ -5,7 +5,7 @@ use mathlib.Core.List.{List, [], ◌∷◌, ◌++◌, append_assoc, append-nil}
 use Prim.Native.Nat.{ℕ, ◌≤◌}
 use borrow.Author.Tests.{lt-ltb, le-ltb}
 use lib.ListN.{length}
-use Rattle.basics.proofs.Tests.{if-lt}
+use Rattle.basics.proofs.Tests.{if_lt}
 use Rattle.numbers.specs.Numbers.{Read, got, stops}
 use Rattle.schedule.specs.declared.Header.{Header}
 use Rattle.schedule.specs.Encoding.{Item, item_bytes, items_bytes, header_bytes}
@@ -13,7 +13,7 @@ use Rattle.schedule.specs.Reading.{Reading, reading, before, read_header, next_i
 use Rattle.files.specs.Fits.{Each, Bytes, HeaderFits, ItemFits}
 use Rattle.files.specs.Refusals.{Missing, Faulty, HeaderRefused, file_too_long, header_ends, header_number, sizes_outside}
 use Rattle.files.specs.Stands.{Ends, Says}
-use Rattle.files.proofs.ReadAll.{read_end, read_item_lem, read_refused, item-by-item}
+use Rattle.files.proofs.ReadAll.{read_end, read_item_lem, read_refused, item_by_item}
 use Rattle.files.proofs.Numbers.{bytes_after, missing_stops, faulty_stops}
 use Rattle.files.proofs.Items.{NextTells, next_tells, next_item_lem, next_refused}
 use Rattle.files.proofs.Headers.{HeaderTells, header_tells, header_read_lem, at_size_stops, sizes_stop}
@@ -59,7 +59,7 @@ stood_item s i left x e fits t =
 items_stood : (s : List ℕ) → Bytes s → Stood s (read_all s)
 unfolding items_bytes
 items_stood =
-    item-by-item (λ s x. Bytes s → Stood s x)
+    item_by_item (λ s x. Bytes s → Stood s x)
     (λ s e bytes. record { items_fit = tt; bytes = refl; ends = inl (subst (NextTells s) e (next_tells s bytes), refl) })
     (λ s i left e _ stood bytes.
     let t = subst (NextTells s) e (next_tells s bytes) in
@@ -76,10 +76,10 @@ file_of r = elim r [ got h left ↦ file h (read_all left) | stops n ↦ bad_hea
 pub read_says : (s : List ℕ) → Bytes s → Says s (read_file s)
 unfolding read_file read_all
 read_says s bytes =
-    if-lt (Says s) 65536 (length s) (λ long. file_too_long refl long) (λ short. by-header short (read_header s) (header_tells s bytes))
+    if_lt (Says s) 65536 (length s) (λ long. file_too_long refl long) (λ short. by_header short (read_header s) (header_tells s bytes))
   where
-    by-header : length s ≤ 65536 → (r : Read Header) → HeaderTells s r → Says s (file_of r)
-    by-header short (got h left) t =
+    by_header : length s ≤ 65536 → (r : Read Header) → HeaderTells s r → Says s (file_of r)
+    by_header short (got h left) t =
         let stood : Stood left (read_all left) = items_stood left (bytes_after (header_bytes h) left (subst Bytes t.0 bytes)) in
         record {
           short = short;
@@ -88,7 +88,7 @@ read_says s bytes =
           bytes = t.0 ∙ ap (λ (r : List ℕ). header_bytes h ++ r) stood.bytes;
           ends = stood.ends;
         }
-    by-header short (stops n) t = t short
+    by_header short (stops n) t = t short
 
 -- and what stands there is read
 read_by_header : (s : List ℕ) (r : Read Header) → length s ≤ 65536 → read_header s ≡ r → read_file s ≡ file_of r

@@ -7,7 +7,7 @@ use native.Mathlib.Omega.{arith}
 use Rattle.record.specs.Record.{process}
 use Rattle.record.specs.declared.Process.{Process}
 use Rattle.table.specs.Events.{sizes_fit}
-use Rattle.basics.proofs.Tests.{if, if-lt, if-le, if-within}
+use Rattle.basics.proofs.Tests.{if, if_lt, if_le, if_within}
 use Rattle.numbers.specs.Numbers.{Read, got, stops, read_number}
 use Rattle.numbers.proofs.Follows.{Tells, after, Follows, follows_follows, Refusal, number_takes}
 use Rattle.schedule.specs.declared.Header.{Header}
@@ -40,21 +40,21 @@ burst_takes : (p : Process) (t s : List ℕ) → Follows t s → TakesItem s (re
 unfolding read_burst
 burst_takes p t s f =
     after (TakesItem s) (read_number t) _ (number_takes t)
-    (λ count left g. if-within (TakesItem s) 1 count 255 (λ low high. (follows_follows g f, (low, high))) (λ out. omega arith))
+    (λ count left g. if_within (TakesItem s) 1 count 255 (λ low high. (follows_follows g f, (low, high))) (λ out. omega arith))
     (λ n r. r)
 
 rest_takes : (kind : ℕ) (p : Process) (t s : List ℕ) → Follows t s → TakesItem s (read_rest kind p t)
 unfolding read_rest
 rest_takes kind p t s f =
-    if-le (TakesItem s) kind 2
+    if_le (TakesItem s) kind 2
     (λ l. after (TakesItem s) (read_number t) _ (number_takes t) (λ a left g. (follows_follows g f, tt)) (λ n r. r))
-    (λ l. if-le (TakesItem s) kind 5 (λ m. (f, tt)) (λ m. burst_takes p t s f))
+    (λ l. if_le (TakesItem s) kind 5 (λ m. (f, tt)) (λ m. burst_takes p t s f))
 
 item_takes : (s : List ℕ) → TakesItem s (read_item s)
 unfolding read_item
 item_takes s =
     after (TakesItem s) (read_number s) _ (number_takes s)
-    (λ kind t f. if-lt (TakesItem s) 6 kind
+    (λ kind t f. if_lt (TakesItem s) 6 kind
     (λ l. omega arith)
     (λ l. after (TakesItem s) (read_number t) _ (number_takes t)
     (λ p u g. rest_takes kind (process p) u s (follows_follows g f))
@@ -70,8 +70,8 @@ Next s (refuses n) = Refusal n
 pub next : (s : List ℕ) → Next s (next_item s)
 unfolding next_item
 next [] = refl
-next (b ∷ s) = by-item (read_item (b ∷ s)) (item_takes (b ∷ s))
+next (b ∷ s) = by_item (read_item (b ∷ s)) (item_takes (b ∷ s))
   where
-    by-item : (r : Read Item) → TakesItem (b ∷ s) r → Next (b ∷ s) (standing r)
-    by-item (got i left) t = t
-    by-item (stops n) t = t
+    by_item : (r : Read Item) → TakesItem (b ∷ s) r → Next (b ∷ s) (standing r)
+    by_item (got i left) t = t
+    by_item (stops n) t = t

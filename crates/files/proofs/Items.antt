@@ -12,7 +12,7 @@ use Rattle.record.specs.Event.{address_of, event_of}
 use Rattle.record.specs.declared.Process.{Process}
 use Rattle.record.specs.declared.Action.{Action}
 use Rattle.record.specs.declared.Action.TheVariants.{Insert, Delete, Find, Step, Stop, Restart}
-use Rattle.basics.proofs.Tests.{if-lt, if-le, if-within}
+use Rattle.basics.proofs.Tests.{if_lt, if_le, if_within}
 use Rattle.numbers.specs.Numbers.{number_bytes, Read, got, stops, ◌then◌, read_number}
 use Rattle.numbers.proofs.Follows.{Tells, after}
 use Rattle.schedule.specs.Encoding.{address_bytes, event_bytes, Item, single, burst, item_bytes}
@@ -116,44 +116,44 @@ number_refused s t n there (inr x) some = bad_number x.0 (there Faulty x.1)
 
 module _ (kind p : ℕ) (t s : List ℕ) (fits : Fits32 p) (opens : s ≡ number_bytes kind ++ (number_bytes p ++ t)) (bytes : Bytes t) where
   -- the last number of an event that has three
-  last-tells : (f : ℕ → List ℕ → Read Item) → (kind ≤ 2) ⊎ (kind ≡ 6)
+  last_tells : (f : ℕ → List ℕ → Read Item) → (kind ≤ 2) ⊎ (kind ≡ 6)
       → ((n : ℕ) (left : List ℕ) → s ≡ number_bytes kind ++ (number_bytes p ++ (number_bytes n ++ left)) → Fits32 n → ItemTells s (f n left))
       → ItemTells s (read_number t then f)
-  last-tells f three go =
+  last_tells f three go =
       after (ItemTells s) (read_number t) f (number_tells t bytes)
       (λ n left x. go n left (opens ∙ ap (λ (r : List ℕ). number_bytes kind ++ (number_bytes p ++ r)) x.0) x.1)
       (λ n x. number_refused s t n (λ P there. at_last kind p t three fits opens there) x)
 
-  burst-tells : (count : ℕ) (left : List ℕ) → Fits32 count → s ≡ number_bytes 6 ++ (number_bytes p ++ (number_bytes count ++ left))
+  burst_tells : (count : ℕ) (left : List ℕ) → Fits32 count → s ≡ number_bytes 6 ++ (number_bytes p ++ (number_bytes count ++ left))
       → ItemTells s (cond (leb 1 count && leb count 255) (got (burst (process p) count) left) (stops 5))
   unfolding item_bytes
-  burst-tells count left u e =
-      if-within (ItemTells s) 1 count 255
+  burst_tells count left u e =
+      if_within (ItemTells s) 1 count 255
       (λ low high. stands (burst (process p) count) (number_bytes 6) (number_bytes p) (number_bytes count) left s e (refl, (fits, low, high)))
       (λ out some. count_outside refl p count left fits u (elim out [ inl x ↦ inl (omega arith) | inr x ↦ inr x ]) e)
 
-  rest-tells : kind ≤ 6 → ItemTells s (read_rest kind (process p) t)
+  rest_tells : kind ≤ 6 → ItemTells s (read_rest kind (process p) t)
   unfolding read_rest read_burst
-  rest-tells l =
-      if-le (ItemTells s) kind 2
-      (λ m. last-tells _ (inl m)
+  rest_tells l =
+      if_le (ItemTells s) kind 2
+      (λ m. last_tells _ (inl m)
       (λ a left e u. stands _ (number_bytes kind) (number_bytes p) (number_bytes a) left s e (request_is kind p a m fits u)))
-      (λ m. if-le (ItemTells s) kind 5
+      (λ m. if_le (ItemTells s) kind 5
       (λ k. stands _ (number_bytes kind) (number_bytes p) [] t s opens (move_is kind p m k fits))
-      (λ k. last-tells _ (inr (omega arith)) (λ count left e u.
+      (λ k. last_tells _ (inr (omega arith)) (λ count left e u.
       let six : kind ≡ 6 = omega arith in
-      burst-tells count left u (e ∙ ap (λ (k : ℕ). number_bytes k ++ (number_bytes p ++ (number_bytes count ++ left))) six))))
+      burst_tells count left u (e ∙ ap (λ (k : ℕ). number_bytes k ++ (number_bytes p ++ (number_bytes count ++ left))) six))))
 
 pub item_tells : (s : List ℕ) → Bytes s → ItemTells s (read_item s)
 unfolding read_item
 item_tells s bytes =
     after (ItemTells s) (read_number s) _ (number_tells s bytes)
-    (λ kind t x. if-lt (ItemTells s) 6 kind
+    (λ kind t x. if_lt (ItemTells s) 6 kind
     (λ l some. kind_above_6 refl kind t l x.1 x.0)
     (λ l.
     let rest : Bytes t = after_number s kind t x.0 bytes in
     after (ItemTells s) (read_number t) _ (number_tells t rest)
-    (λ p u y. rest-tells kind p u s y.1 (x.0 ∙ ap (λ (r : List ℕ). number_bytes kind ++ r) y.0) (after_number t p u y.0 rest) l)
+    (λ p u y. rest_tells kind p u s y.1 (x.0 ∙ ap (λ (r : List ℕ). number_bytes kind ++ r) y.0) (after_number t p u y.0 rest) l)
     (λ n y. number_refused s t n (λ P there. at_process kind t l x.0 there) y)))
     (λ n x. number_refused s s n (λ P there. at_kind there) x)
 
@@ -184,7 +184,7 @@ refused_stops s n (count_outside is p count rest u v out e) =
     ap read_item e
     ∙ opening_read 6 p (number_bytes count ++ rest) (omega arith) u
     ∙ rw (number_read_lem count rest v)
-    (if-within (λ (r : Read Item). r ≡ stops n) 1 count 255
+    (if_within (λ (r : Read Item). r ≡ stops n) 1 count 255
     (λ low high. absurd (elim out [ inl x ↦ omega arith | inr x ↦ omega arith ]))
     (λ _. ap stops (sym is)))
 
@@ -199,11 +199,11 @@ NextTells s (refuses n) = Refused s n
 pub next_tells : (s : List ℕ) → Bytes s → NextTells s (next_item s)
 unfolding next_item
 next_tells [] bytes = refl
-next_tells (b ∷ s) bytes = by-item (read_item (b ∷ s)) (item_tells (b ∷ s) bytes)
+next_tells (b ∷ s) bytes = by_item (read_item (b ∷ s)) (item_tells (b ∷ s) bytes)
   where
-    by-item : (r : Read Item) → ItemTells (b ∷ s) r → NextTells (b ∷ s) (standing r)
-    by-item (got i left) t = t
-    by-item (stops n) t = t (λ e. cons≢nil e)
+    by_item : (r : Read Item) → ItemTells (b ∷ s) r → NextTells (b ∷ s) (standing r)
+    by_item (got i left) t = t
+    by_item (stops n) t = t (λ e. cons≢nil e)
 
 pub next_nothing : next_item [] ≡ end
 unfolding next_item

@@ -6,7 +6,7 @@ use Prim.Native.Nat.{ℕ, zero, suc, ◌+◌, ◌/◌, ◌%◌, ◌≤◌}
 use native.Mathlib.Omega.{arith}
 use lib.ListN.{length}
 use lib.Seq.{append_snoc}
-use Rattle.basics.proofs.Tests.{if-lt}
+use Rattle.basics.proofs.Tests.{if_lt}
 use Rattle.numbers.specs.Numbers.{groups, number_bytes}
 use Rattle.schedule.specs.Reading.{end, refuses, next_item}
 use Rattle.files.specs.Fits.{Bytes, Fits32}
@@ -45,7 +45,7 @@ unfolding groups
 groups_cut more n [] c = (tt, omega arith)
 groups_cut zero n (x ∷ front) c = absurd (nothing_to_cut front (cut_rest n x [] front c).1)
 groups_cut (suc more) n (x ∷ front) c =
-    if-lt (λ (s : List ℕ). Cut s (x ∷ front) → Promise (x ∷ front) × (length (x ∷ front) ≤ suc more)) n 128
+    if_lt (λ (s : List ℕ). Cut s (x ∷ front) → Promise (x ∷ front) × (length (x ∷ front) ≤ suc more)) n 128
     (λ small c. absurd (nothing_to_cut front (cut_rest n x [] front c).1))
     (λ large c.
     let d = cut_rest (128 + n % 128) x (groups more (n / 128)) front c in

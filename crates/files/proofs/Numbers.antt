@@ -8,7 +8,7 @@ use native.Mathlib.Omega.{arith}
 use borrow.Author.Tests.{lt-ltb, le-ltb, ne_eqb, ltb-true, ltb-false, eqb-true, eqb-false}
 use lib.Dec.{ltb, eqb}
 use lib.ListN.{length}
-use Rattle.basics.proofs.Tests.{if-lt, if-eq, if-or}
+use Rattle.basics.proofs.Tests.{if_lt, if_eq, if_or}
 use Rattle.numbers.specs.Numbers.{groups, number_bytes, Read, got, stops, ◌then◌, lowest, more_groups, read_number}
 use Rattle.numbers.proofs.Follows.{Tells, after}
 use Rattle.files.specs.Fits.{Bytes, Fits32}
@@ -37,7 +37,7 @@ more_read : (before n : ℕ) (rest : List ℕ) → 1 ≤ n → n < bound before 
 unfolding groups more_groups
 more_read zero n rest l u = rw (le-ltb 15 n (omega arith), ne_eqb n 0 (λ z. omega arith))
 more_read (suc before) n rest l u =
-    if-lt (λ (s : List ℕ). more_groups (suc before) (s ++ rest) ≡ got n rest) n 128
+    if_lt (λ (s : List ℕ). more_groups (suc before) (s ++ rest) ≡ got n rest) n 128
     (λ small. rw (lt-ltb n 128 small, ne_eqb n 0 (λ z. omega arith)))
     (λ large. group_read n rest _ _ (more_read before (n / 128) rest (omega arith) (omega arith)))
 
@@ -45,7 +45,7 @@ more_read (suc before) n rest l u =
 pub number_read_lem : (n : ℕ) (rest : List ℕ) → Fits32 n → read_number (number_bytes n ++ rest) ≡ got n rest
 unfolding number_bytes groups read_number
 number_read_lem n rest u =
-    if-lt (λ (s : List ℕ). read_number (s ++ rest) ≡ got n rest) n 128
+    if_lt (λ (s : List ℕ). read_number (s ++ rest) ≡ got n rest) n 128
     (λ small. rw (lt-ltb n 128 small))
     (λ large. group_read n rest _ _ (more_read 3 (n / 128) rest (omega arith) (omega arith)))
 
@@ -122,13 +122,13 @@ unfolding more_groups
 more_tells zero [] bytes = inl (refl, (tt, omega arith))
 more_tells (suc before) [] bytes = inl (refl, (tt, omega arith))
 more_tells zero (b ∷ s) bytes =
-    if-or (MoreTells zero (b ∷ s)) (ltb 15 b) (eqb b 0)
+    if_or (MoreTells zero (b ∷ s)) (ltb 15 b) (eqb b 0)
     (λ t. inr (refl, faulty_now zero b s (inl (refl, ltb-true 15 b t))))
     (λ t. inr (refl, faulty_now zero b s (inr (omega arith, eqb-true b 0 t))))
     (λ t z. (one_group zero b s (omega (arith, ltb-false 15 b t)), omega (arith, eqb-false b 0 z), omega (arith, ltb-false 15 b t)))
 more_tells (suc before) (b ∷ s) bytes =
-    if-lt (MoreTells (suc before) (b ∷ s)) b 128
-    (λ small. if-eq (MoreTells (suc before) (b ∷ s)) b 0
+    if_lt (MoreTells (suc before) (b ∷ s)) b 128
+    (λ small. if_eq (MoreTells (suc before) (b ∷ s)) b 0
     (λ z. inr (refl, faulty_now (suc before) b s (inr (omega arith, z))))
     (λ z. (one_group (suc before) b s small, omega arith, omega (arith, bound_large before))))
     (λ large. after (MoreTells (suc before) (b ∷ s)) (more_groups before s) (lowest (b - 128)) (more_tells before s bytes.1)
@@ -147,7 +147,7 @@ pub number_tells : (s : List ℕ) → Bytes s → NumberTells s (read_number s)
 unfolding read_number number_bytes
 number_tells [] bytes = inl (refl, record { promise = tt; few = omega arith })
 number_tells (b ∷ s) bytes =
-    if-lt (NumberTells (b ∷ s)) b 128
+    if_lt (NumberTells (b ∷ s)) b 128
     (λ small. (one_group 4 b s small, omega arith))
     (λ large. after (NumberTells (b ∷ s)) (more_groups 3 s) (lowest (b - 128)) (more_tells 3 s bytes.1)
     (λ n left t. (group_before 3 b n s left large bytes.0 t.1 t.0, omega (arith, t.2, bytes.0)))
@@ -189,13 +189,13 @@ more_faulty (suc before) (b ∷ front) byte rest promise fault =
 
 pub faulty_stops : (s : List ℕ) → Faulty s → read_number s ≡ stops 6
 unfolding read_number
-faulty_stops s f = ap read_number f.stands ∙ by-groups f.groups f.promise f.fault
+faulty_stops s f = ap read_number f.stands ∙ by_groups f.groups f.promise f.fault
   where
-    by-groups : (front : List ℕ) → Promise front
+    by_groups : (front : List ℕ) → Promise front
         → ((length front ≡ 4) × (15 < f.byte)) ⊎ ((1 ≤ length front) × (length front ≤ 4) × (f.byte ≡ 0))
         → read_number (front ++ (f.byte ∷ f.rest)) ≡ stops 6
-    by-groups [] promise fault = elim fault [ inl x ↦ absurd (omega (arith, x.0)) | inr x ↦ absurd (omega (arith, x.0)) ]
-    by-groups (b ∷ front) promise fault =
+    by_groups [] promise fault = elim fault [ inl x ↦ absurd (omega (arith, x.0)) | inr x ↦ absurd (omega (arith, x.0)) ]
+    by_groups (b ∷ front) promise fault =
         let earlier = fault_earlier 3 (length front) f.byte (elim fault [ inl x ↦ inl x | inr x ↦ inr (x.1, x.2) ]) in
         group_stops b 6 _ _ promise.0 (more_faulty 3 front f.byte f.rest promise.1 earlier)
 

@@ -52,7 +52,7 @@ read_refused s n e = read_next s ∙ ap (read_on read_all s) e
 
 -- so what is read has a property that the end and a refusal have, and that an item keeps
 module _ (P : List ℕ → Reading → Type 0)
-    (at-end : (s : List ℕ) → next_item s ≡ end → P s (reading [] s 0))
+    (at_end : (s : List ℕ) → next_item s ≡ end → P s (reading [] s 0))
     (at_item : (s : List ℕ) (i : Item) (left : List ℕ) → next_item s ≡ item i left → Follows left s × CountFits i → P left (read_all left)
     → P s (before i (read_all left)))
     (at-refusal : (s : List ℕ) (n : ℕ) → next_item s ≡ refuses n → P s (reading [] s n)) where
@@ -62,11 +62,11 @@ module _ (P : List ℕ → Reading → Type 0)
     where
       by_next : ((left : List ℕ) → length left < turns → P left (read_all left))
           → (x : NextItem) → next_item s ≡ x → Next s x → P s (read_all s)
-      by_next again end e t = rw (read_end s e) (at-end s e)
+      by_next again end e t = rw (read_end s e) (at_end s e)
       by_next again (item i left) e t =
           let shorter : length left < length s = follows_shorter t.0 in
           rw (read_item_lem s i left e) (at_item s i left e t (again left (omega arith)))
       by_next again (refuses n) e t = rw (read_refused s n e) (at-refusal s n e)
 
-  pub item-by-item : (s : List ℕ) → P s (read_all s)
-  item-by-item s = in_turns (suc (length s)) s (omega arith)
+  pub item_by_item : (s : List ℕ) → P s (read_all s)
+  item_by_item s = in_turns (suc (length s)) s (omega arith)

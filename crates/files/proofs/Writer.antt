@@ -11,7 +11,7 @@ use lib.ListN.{length, drop, length-append, take-append-drop}
 use lib.Seq.{take-append_seam}
 use Rattle.record.specs.declared.Event.{Event}
 use Rattle.table.specs.Events.{sizes_fit}
-use Rattle.basics.proofs.Tests.{if, if-eq, if-le}
+use Rattle.basics.proofs.Tests.{if, if_eq, if_le}
 use Rattle.schedule.specs.declared.Header.{Header}
 use Rattle.schedule.specs.declared.Written.{Written}
 use Rattle.schedule.specs.declared.Written.TheVariants.{Next, Refused}
@@ -33,7 +33,7 @@ put_cases : (P : Wrote → Type 0) (bytes output : List ℕ) (at : ℕ)
     → (length bytes ≤ room output at → P (wrote (laid bytes output at) (at + length bytes) 0))
     → (room output at < length bytes → P (wrote output at 9)) → P (put_at bytes output at)
 unfolding put_at
-put_cases P bytes output at = if-le P (length bytes) (room output at)
+put_cases P bytes output at = if_le P (length bytes) (room output at)
 
 event_cases : (P : Wrote → Type 0) (e : Event) (output : List ℕ) (at : ℕ)
     → (length (event_bytes e) ≤ room output at → P (wrote (laid (event_bytes e) output at) (at + length (event_bytes e)) 0))
@@ -122,29 +122,29 @@ answer_left w output left at r n later as-found is refused =
     let number = (refusal_answered w left at r n later is).0 refused in
     left_is ∙ (as-found (λ e. number.0 (sym number.1 ∙ e))).0
   where
-    output-of : (x : Written) → (answered left at x).output ≡ left
-    output-of (Next next) = refl
-    output-of (Refused m) = refl
+    output_of : (x : Written) → (answered left at x).output ≡ left
+    output_of (Next next) = refl
+    output_of (Refused m) = refl
 
     left_is : left ≡ w.output
-    left_is = sym (output-of r) ∙ (λ j. (is j).output)
+    left_is = sym (output_of r) ∙ (λ j. (is j).output)
 
 module _ (output left : List ℕ) (at : ℕ) (r : Written) (n : ℕ) where
-  pub header-answer-refused : (h : Header) → answered left at r ≡ written_header h output at
+  pub header_answer_refused : (h : Header) → answered left at r ≡ written_header h output at
       → (r ≡ Refused n) ↔ ((n ≢ 0) × ((written_header h output at).refusal ≡ n))
-  header-answer-refused h = refusal_answered (written_header h output at) left at r n (header_later h output at)
+  header_answer_refused h = refusal_answered (written_header h output at) left at r n (header_later h output at)
 
-  pub event-answer-refused : (e : Event) → answered left at r ≡ written_event e output at
+  pub event_answer_refused : (e : Event) → answered left at r ≡ written_event e output at
       → (r ≡ Refused n) ↔ ((n ≢ 0) × ((written_event e output at).refusal ≡ n))
-  event-answer-refused e = refusal_answered (written_event e output at) left at r n (event_later e output at)
+  event_answer_refused e = refusal_answered (written_event e output at) left at r n (event_later e output at)
 
   -- a header or an event that the code refused has left the output as it was
-  pub header-answer-leaves : (h : Header) → answered left at r ≡ written_header h output at → r ≡ Refused n → left ≡ output
-  header-answer-leaves h =
+  pub header_answer_leaves : (h : Header) → answered left at r ≡ written_header h output at → r ≡ Refused n → left ≡ output
+  header_answer_leaves h =
       answer_left (written_header h output at) output left at r n (header_later h output at) (refused_header_left_as_found h output at)
 
-  pub event-answer-leaves : (e : Event) → answered left at r ≡ written_event e output at → r ≡ Refused n → left ≡ output
-  event-answer-leaves e =
+  pub event_answer_leaves : (e : Event) → answered left at r ≡ written_event e output at → r ≡ Refused n → left ≡ output
+  event_answer_leaves e =
       answer_left (written_event e output at) output left at r n (event_later e output at) (refused_event_left_as_found e output at)
 
 -- ---- what was written reads back, also where an event is refused
@@ -156,7 +156,7 @@ unfolding written_file
 refused_header_writes_nothing h events output refused =
     let number = (written_header h output 0).refusal in
     let found = refused_header_left_as_found h output 0 refused in
-    if-eq (λ (w : Wrote). w ≡ wrote output 0 number) number 0 (λ e. absurd (refused e)) (λ e j. wrote (found.0 j) (found.1 j) number)
+    if_eq (λ (w : Wrote). w ≡ wrote output 0 number) number 0 (λ e. absurd (refused e)) (λ e j. wrote (found.0 j) (found.1 j) number)
 
 -- after `first`, some of the events are written from a place on, and the next one is refused
 record StopsAfter (first : List ℕ) (events : List Event) (output : List ℕ) (at : ℕ) (w : Wrote) : Type 0 where
@@ -263,9 +263,9 @@ stopped_at_event : (h : Header) (events : List Event) (output : List ℕ) → He
 unfolding file_bytes
 stopped_at_event h events output fits fit t =
     let bytes = header_bytes h ++ items_bytes (singles t.done) in
-    let from-0 : 0 + length bytes ≡ length bytes = zero-add (length bytes) in
+    let from_0 : 0 + length bytes ≡ length bytes = zero-add (length bytes) in
     let leaves : written_file h events output ≡ wrote (filled_with h t.done output) (length bytes) 9 =
-    t.leaves ∙ ap (λ (k : ℕ). wrote (laid bytes output 0) k 9) from-0 in
+    t.leaves ∙ ap (λ (k : ℕ). wrote (laid bytes output 0) k 9) from_0 in
     let done-fit = front_fits t.done (t.refused ∷ t.rest) (rw t.split at fit) in
     let encodes : Encodes bytes h (singles t.done) =
     record { short = omega (arith, t.had_room); header_fits = fits; items_fit = singles_fit t.done done-fit; bytes = refl } in

@@ -12,7 +12,7 @@ use lib.ListN.{length, take, drop, length-append, length-take, length-drop, take
 use lib.Seq.{take_at, drop_at, drop-drop, length-take-le, take-append_seam}
 use Rattle.record.specs.declared.Event.{Event}
 use Rattle.table.specs.Events.{sizes_fit}
-use Rattle.basics.proofs.Tests.{if, if-le}
+use Rattle.basics.proofs.Tests.{if, if_le}
 use Rattle.schedule.specs.declared.Header.{Header}
 use Rattle.schedule.specs.Encoding.{Item, single, burst, header_bytes, event_bytes, item_bytes, items_bytes, file_bytes, events_of}
 use Rattle.schedule.specs.Reading.{reading, file, read_file}
@@ -92,7 +92,7 @@ then_room : (first rest output : List ℕ) (at : ℕ) (events : List Event)
     → at ≤ limit output → (and_then events (put_at first output at)).refusal ≡ 0 → at + length (first ++ rest) ≤ limit output
 unfolding put_at
 then_room first rest output at events had_room l =
-    if-le (λ (w : Wrote). (and_then events w).refusal ≡ 0 → at + length (first ++ rest) ≤ limit output) (length first) (room output at)
+    if_le (λ (w : Wrote). (and_then events w).refusal ≡ 0 → at + length (first ++ rest) ≤ limit output) (length first) (room output at)
     (λ fits done.
     let same : length (laid first output at) ≡ length output = length_laid first output at (omega arith) in
     omega (arith, length-append first rest, had_room (laid first output at) (at + length first) (omega arith) done))

@@ -38,34 +38,34 @@ module _ (a l d : List ℕ) (nodes processes : ℕ) (fits : Bool) where
     room : fits ≡ true → Room asked
     room fit = room_of asked (sym told ∙ fit)
 
-    pub two-nodes : fits ≡ true → 2 ≤ nodes
-    two-nodes fit = (limits asked (sym told ∙ fit)).two
+    pub two_nodes : fits ≡ true → 2 ≤ nodes
+    two_nodes fit = (limits asked (sym told ∙ fit)).two
 
-    pub addresses-long : fits ≡ true → nodes ≤ length a
+    pub addresses_long : fits ≡ true → nodes ≤ length a
     unfolding lengths
-    addresses-long fit = (room fit).long.addresses
+    addresses_long fit = (room fit).long.addresses
 
-    pub links-long : fits ≡ true → nodes ≤ length l
+    pub links_long : fits ≡ true → nodes ≤ length l
     unfolding lengths
-    links-long fit = (room fit).long.links
+    links_long fit = (room fit).long.links
 
-    pub deleters-long : fits ≡ true → nodes ≤ length d
+    pub deleters_long : fits ≡ true → nodes ≤ length d
     unfolding lengths
-    deleters-long fit = (room fit).long.deleters
+    deleters_long fit = (room fit).long.deleters
 
     -- the words laid over tables that fit are those of a fresh list
-    pub words-laid : (a' l' d' : List ℕ) → fits ≡ true
+    pub words_laid : (a' l' d' : List ℕ) → fits ≡ true
         → a' ≡ over (replicate nodes 0) a → ((p : ℕ) → l' ≡ over (fresh_memory nodes p).links l) → d' ≡ over (replicate nodes 0) d
         → tables_left (lent_memory a' l' d' (fresh_sizes nodes processes)) (Fresh (record { nodes = nodes; processes = processes; count = 2 }))
         ≡ fresh_tables (lent_memory a l d (fresh_sizes nodes processes))
     unfolding fresh_memory fresh_tables
-    words-laid a' l' d' fit e f g = rw (sym told ∙ fit, e, f processes, g)
+    words_laid a' l' d' fit e f g = rw (sym told ∙ fit, e, f processes, g)
 
     -- tables that do not are left as they are
-    pub tables-refused : fits ≡ false
+    pub tables_refused : fits ≡ false
         → tables_left (lent_memory a l d (fresh_sizes nodes processes)) (Refused 7) ≡ fresh_tables (lent_memory a l d (fresh_sizes nodes processes))
     unfolding fresh_memory fresh_tables
-    tables-refused unfit = rw (sym told ∙ unfit)
+    tables_refused unfit = rw (sym told ∙ unfit)
 
 -- ---- the row beside the tables
 
@@ -83,24 +83,24 @@ answer_refused true number z e = absurd (let z : ◌≡◌ {A = ℕ} 0 1 = cc in
 answer_refused false number z e = refl
 
 module _ (m : Memory) (row : List Record) where
-  pub row-refused : length row < m.processes → list_left (state_of m row) (Refused 7) ≡ fresh_list (state_of m row)
+  pub row_refused : length row < m.processes → list_left (state_of m row) (Refused 7) ≡ fresh_list (state_of m row)
   unfolding fresh_list
-  row-refused short = rw (lt-leb m.processes (length row) short)
+  row_refused short = rw (lt-leb m.processes (length row) short)
 
   module _ (m' : Memory) (answer : Made) (long : m.processes ≤ length row) (made : tables_left m' answer ≡ fresh_tables m) where
     told : answer ≡ cond (fresh_fits m) (Fresh (sizes_of (fresh_of m))) (Refused 7)
     unfolding fresh_tables
     told = answered (fresh_fits m) _ _ _ made
 
-    pub list-laid : (sizes : Sizes) → answer ≡ Fresh sizes
+    pub list_laid : (sizes : Sizes) → answer ≡ Fresh sizes
         → list_left (state_of m' (over (replicate m.processes fresh_record) row)) answer ≡ fresh_list (state_of m row)
     unfolding fresh_list fresh
-    list-laid sizes is =
+    list_laid sizes is =
         rw (le-leb m.processes (length row) long, answer_fresh (fresh_fits m) sizes _ (sym is ∙ told), sym made)
 
-    pub list-refused : (number : ℕ) → answer ≡ Refused number → list_left (state_of m' row) answer ≡ fresh_list (state_of m row)
+    pub list_refused : (number : ℕ) → answer ≡ Refused number → list_left (state_of m' row) answer ≡ fresh_list (state_of m row)
     unfolding fresh_list fresh_tables
-    list-refused number is =
+    list_refused number is =
         let unfit = answer_refused (fresh_fits m) number _ (sym is ∙ told) in
         let left : tables_left m' answer ≡ tables_left m (Refused 7) = made ∙ rw unfit in
         rw (le-leb m.processes (length row) long, unfit) (ap (λ (x : TablesLeft). list_left (state_of x.memory row) x.answer) left)

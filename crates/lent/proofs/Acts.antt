@@ -4,9 +4,9 @@ use Rattle.walks.proofs.Kit.{◌≡◌, [], ◌∷◌, List, Ura, Opd, Place, Bo
 use Rattle.walks.proofs.Kit.{Fun, Item, Sq, Post, Go, runs, lands, Opds, raw, ⋆, ◌$◌, ◌∵◌, !, qed, move, drop, FmC, Is, nothing}
 use Rattle.walks.proofs.Kit.{Contract, Triple}
 use Rattle.walks.proofs.Values.{ByValue, IsA, of_struct, of_enum, with_value}
-use Rattle.walks.proofs.Calls.{Met, calls-met}
+use Rattle.walks.proofs.Calls.{Met, calls_met}
 use Rattle.walks.proofs.Record.{record_values, R, vals}
-use Rattle.walks.proofs.Tables.{values_of_tables, LentTables, memory_lent, memory_last, SameLengths, Lent, Last, last-words, asked}
+use Rattle.walks.proofs.Tables.{values_of_tables, LentTables, memory_lent, memory_last, SameLengths, Lent, Last, last_words, asked}
 use denote.Struct.Laws as struct
 use Rattle.record.specs.declared.Record.{Record}
 use Rattle.record.specs.declared.Process.{Process}
@@ -66,8 +66,8 @@ module _ {M : Type 1} {𝓤 : Ura M} (𝓛 : Logic 𝓤) (at_mem : Memory → SP
   Acting = Met 𝓛 callee.ended (callee.clauses 𝓛 at_mem run)
 
   module _ (ts : LentTables) (z : Sizes) (p : Process) (r : Record) (x : Action) where
-    abbrev to-act : Acting.Ghost
-    to-act = (
+    abbrev to_act : Acting.Ghost
+    to_act = (
       (
         ts.κs,
         ts.qs,
@@ -82,7 +82,7 @@ module _ {M : Type 1} {𝓤 : Ura M} (𝓛 : Logic 𝓤) (at_mem : Memory → SP
     abbrev pub Acts-so : Handed → words.Memory → Type 0
     Acts-so t m = left m (acted_of t.advanced t.said) ≡ act (memory_lent ts z) p r x
 
-    asks : IsA sizes_values z → IsA process_values p → Is R r (vals r) → IsA action_values x → ent 𝓤 (⋆ 𝓛 (Lent 𝓤 ts [])) (Acting.pre to-act)
+    asks : IsA sizes_values z → IsA process_values p → Is R r (vals r) → IsA action_values x → ent 𝓤 (⋆ 𝓛 (Lent 𝓤 ts [])) (Acting.pre to_act)
     asks is-z is-p is-r is_x =
         qed 𝓛 (Lent 𝓤 ts []) ∵ nothing ! $ with_value ! action_values x is_x $ with_value ! record_values r is-r $
         with_value ! process_values p is-p $ with_value ! sizes_values z is-z $ nothing ! $ asked ! ts
@@ -90,12 +90,12 @@ module _ {M : Type 1} {𝓤 : Ura M} (𝓛 : Logic 𝓤) (at_mem : Memory → SP
     module _ {Γ : List (Item 𝓤)} {E : Env 𝓤 H} {C : Calls 𝓤 H} {Λ : Loops 𝓤 H} {xs : List Opd} {d : Place} {rest : Body} {q : Post 𝓤 H} where
       pub acts : FmC 𝓤 H 𝓛.laws C → Triple 𝓤 (C #hand-back) Acting
           → IsA sizes_values z → IsA process_values p → Is R r (vals r) → IsA action_values x
-          → Opds Go 𝓛 (raw (Acting.pre to-act) ∷ Γ) E xs (Acting.args to-act)
+          → Opds Go 𝓛 (raw (Acting.pre to_act) ∷ Γ) E xs (Acting.args to_act)
           → ((t : Handed) (m : words.Memory) → Acts-so t m → SameLengths ts m → IsA handed_values t
           → Sq 𝓛 (Last 𝓤 ts m Γ) (lands C Λ E d (handed_values.val t) rest q))
           → Sq 𝓛 (Lent 𝓤 ts Γ) (runs C Λ E (seq (call #hand-back xs d) rest) q)
       acts fm known is-z is-p is-r is_x os k =
-          calls-met 𝓛 callee.ended (callee.clauses 𝓛 at_mem run) to-act (Lent 𝓤 ts []) handed_values.val
+          calls_met 𝓛 callee.ended (callee.clauses 𝓛 at_mem run) to_act (Lent 𝓤 ts []) handed_values.val
           (λ t zs. Acts-so t (memory_last zs t.said.sizes)) (asks is-z is-p is-r is_x) handed_values.tells (λ t zs. id⊢ 𝓤 _) fm known os
           (λ t zs so is. let m = memory_last zs t.said.sizes in
-          last-words ! ts m (λ same. move ! (3 ∷ []) $ drop ! $ move ! (3 ∷ []) $ k t m so same is))
+          last_words ! ts m (λ same. move ! (3 ∷ []) $ drop ! $ move ! (3 ∷ []) $ k t m so same is))

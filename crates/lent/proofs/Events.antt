@@ -8,7 +8,7 @@ use Rattle.record.specs.declared.Record.{Record}
 use Rattle.record.specs.declared.Event.{Event}
 use Rattle.table.specs.Words.{Memory}
 use Rattle.table.specs.Events.{Left, act, State, state_of, record_in, leaves_in, stored, event}
-use Rattle.table.proofs.Laws.Meets.{event-in-row, event-left-by-nobody}
+use Rattle.table.proofs.Laws.Meets.{event_in_row, event_left_by_nobody}
 use Rattle.words.specs.LentMemory.{sized}
 use Rattle.list.specs.Acting.{left}
 use Rattle.lent.specs.declared.Handed.{Handed}
@@ -28,8 +28,8 @@ module _ (m : Memory) (row : List Record) (e : Event) (m' : Memory) (t : Handed)
 
   pub in_row : HandedOf (record_in σ e.process) → LeavesRow (set row e.process.0 t.advanced)
   unfolding stored
-  in_row so = ap (stored σ e.process) so ∙ sym (event-in-row σ e long)
+  in_row so = ap (stored σ e.process) so ∙ sym (event_in_row σ e long)
 
-  pub past-count : m.processes ≤ e.process.0 → (r : Record) → HandedOf r → LeavesRow row
-  past-count past r so =
-      ap (λ (d : Left). leaves_in (state_of d.memory row) d.outcome) so ∙ sym (event-left-by-nobody σ e long past r)
+  pub past_count : m.processes ≤ e.process.0 → (r : Record) → HandedOf r → LeavesRow row
+  past_count past r so =
+      ap (λ (d : Left). leaves_in (state_of d.memory row) d.outcome) so ∙ sym (event_left_by_nobody σ e long past r)

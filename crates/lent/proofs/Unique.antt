@@ -23,15 +23,15 @@ module _ (m m₁ m₂ : Memory) (s₁ s₂ : Said) where
   abbrev SameMemory : Type 0
   SameMemory = sized s₁.sizes m₁ ≡ sized s₂.sizes m₂
 
-  pub act-on-unique : (p : Process) (r r₁ r₂ : Record) (x : Action)
+  pub act_on_unique : (p : Process) (r r₁ r₂ : Record) (x : Action)
       → left m₁ (acted_of r₁ s₁) ≡ act m p r x → left m₂ (acted_of r₂ s₂) ≡ act m p r x → SameMemory × (r₁ ≡ r₂) × (s₁ ≡ s₂)
-  act-on-unique p r r₁ r₂ x f g =
+  act_on_unique p r r₁ r₂ x f g =
       let same = f ∙ sym g in
       (λ j. (same j).memory, λ j. (same j).advanced, λ j. said (sizes_of (same j).memory) (same j).outcome)
 
-  pub act-in-unique : (row row₁ row₂ : List Record) (e : Event)
+  pub act_in_unique : (row row₁ row₂ : List Record) (e : Event)
       → leaves_in (state_of (sized s₁.sizes m₁) row₁) s₁.outcome ≡ event (state_of m row) e
       → leaves_in (state_of (sized s₂.sizes m₂) row₂) s₂.outcome ≡ event (state_of m row) e → SameMemory × (row₁ ≡ row₂) × (s₁ ≡ s₂)
-  act-in-unique row row₁ row₂ e f g =
+  act_in_unique row row₁ row₂ e f g =
       let same = f ∙ sym g in
       (λ j. (same j).after.memory, λ j. (same j).after.row, λ j. said (sizes_of (same j).after.memory) (same j).outcome)

@@ -2,7 +2,7 @@
 #![tactic(auto)]
 
 ghost use Rattle.std.specs.Prelude.{◌≡◌};
-ghost use Rattle.table.specs.Events.{act, state_of, leaves_in, event as eventIn};
+ghost use Rattle.table.specs.Events.{act, state_of, leaves_in, event as event_in};
 ghost use Rattle.words.specs.LentMemory.{lent_memory};
 ghost use Rattle.list.specs.Acting.{left};
 ghost use Rattle.lent.specs.Lent.{acted_of};
@@ -77,7 +77,7 @@ pub fn act_in(
     event: Event,
 ) -> Said
     ensures { leaves_in (state_of (lent_memory addresses.new links.new deleters.new result.sizes) row.new) result.outcome ≡
-        eventIn (state_of (lent_memory addresses.old links.old deleters.old sizes) row.old) event }
+        event_in (state_of (lent_memory addresses.old links.old deleters.old sizes) row.old) event }
 {
     let processes = sizes.processes;
     if row.len() < processes as usize {

@@ -27,32 +27,32 @@ use Rattle.list.specs.Rows.{Within}
 
 module _ (m : Memory) where
   module _ (r : Record) (f : Field) (u : Bool) (is : u ≡ usable (in_use m) r f) where
-    pub link-is-read : (n : Node) (read : LinkRead) → u ≡ true → n ≡ node_of r f → read ≡ link_met m n → read ≡ link_read m r f
+    pub link_is_read : (n : Node) (read : LinkRead) → u ≡ true → n ≡ node_of r f → read ≡ link_met m n → read ≡ link_read m r f
     unfolding link_read
-    link-is-read n read so at_is made = rw (made, at_is, ← is, so)
+    link_is_read n read so at_is made = rw (made, at_is, ← is, so)
 
-    pub link-not-read : u ≡ false → no_link ≡ link_read m r f
+    pub link_not_read : u ≡ false → no_link ≡ link_read m r f
     unfolding link_read
-    link-not-read unused = rw (← is, unused)
+    link_not_read unused = rw (← is, unused)
 
-    pub deleter-is-read : (p : Process) (n : Node) (word mine : ℕ) → u ≡ true → n ≡ node_of r f → word ≡ deleter_at m n → mine ≡ deleter_word p →
+    pub deleter_is_read : (p : Process) (n : Node) (word mine : ℕ) → u ≡ true → n ≡ node_of r f → word ≡ deleter_at m n → mine ≡ deleter_word p →
         record { accepted = true; mine = eqb word mine } ≡ deleter_read m p r f
     unfolding deleter_read
-    deleter-is-read p n word mine so at_is read signs = rw (signs, read, at_is, ← is, so)
+    deleter_is_read p n word mine so at_is read signs = rw (signs, read, at_is, ← is, so)
 
-    pub deleter-not-read : (p : Process) → u ≡ false → record { accepted = false; mine = false } ≡ deleter_read m p r f
+    pub deleter_not_read : (p : Process) → u ≡ false → record { accepted = false; mine = false } ≡ deleter_read m p r f
     unfolding deleter_read
-    deleter-not-read p unused = rw (← is, unused)
+    deleter_not_read p unused = rw (← is, unused)
 
-    pub deleter-swapped : (p : Process) (n : Node) (new : ℕ) (x : AccessLeft) → u ≡ true → n ≡ node_of r f → new ≡ deleter_word p →
+    pub deleter_swapped : (p : Process) (n : Node) (new : ℕ) (x : AccessLeft) → u ≡ true → n ≡ node_of r f → new ≡ deleter_word p →
         x ≡ swap_made (swap_of m.deleters n no_deleter new) → x ≡ deleter_swap m p r f
     unfolding deleter_swap
-    deleter-swapped p n new x so at_is signs made = rw (made, at_is, signs, ← is, so)
+    deleter_swapped p n new x so at_is signs made = rw (made, at_is, signs, ← is, so)
 
-    pub deleter-stays : (p : Process) (words : List ℕ) (met : SwapMet) → u ≡ false → words ≡ m.deleters → met ≡ no_swap →
+    pub deleter_stays : (p : Process) (words : List ℕ) (met : SwapMet) → u ≡ false → words ≡ m.deleters → met ≡ no_swap →
         access_left words met ≡ deleter_swap m p r f
     unfolding deleter_swap
-    deleter-stays p words met unused same unmade = rw (same, unmade, ← is, unused)
+    deleter_stays p words met unused same unmade = rw (same, unmade, ← is, unused)
 
 -- ---- link words
 
@@ -60,18 +60,18 @@ module _ (sizes : Sizes) (within : Within sizes) (m₀ : Memory) (r : Record) wh
   abbrev m : Memory
   m = sized sizes m₀
 
-  abbrev usableIn : Field → Bool
-  usableIn = usable (in_use m) r
+  abbrev usable_in : Field → Bool
+  usable_in = usable (in_use m) r
 
   -- a usable node is small enough for a link word
-  small : (f : Field) → usableIn f ≡ true → (node_of r f).0 < 4096
+  small : (f : Field) → usable_in f ≡ true → (node_of r f).0 < 4096
   small head u = omega arith
   small pred u = omega (arith, within.few, within.stated m₀ r.lost.pred u)
   small curr u = omega (arith, within.few, within.stated m₀ r.lost.curr u)
   small succ u = omega (arith, within.few, within.stated m₀ r.lost.succ u)
   small own u = omega (arith, within.few, within.stated m₀ r.kept.node (and_right (not (eqb r.kept.node.0 0)) _ u))
 
-  link_fits : (f : Field) (mark : Bool) (n : Node) (word : ℕ) → usableIn f ≡ true → n ≡ node_of r f → word ≡ link_word n mark % 4294967296
+  link_fits : (f : Field) (mark : Bool) (n : Node) (word : ℕ) → usable_in f ≡ true → n ≡ node_of r f → word ≡ link_word n mark % 4294967296
       → word ≡ link_of r (link_named f mark)
   link_fits f true n word u is made = made ∙ rw is (small_word (node_of r f) true (small f u))
   link_fits f false n word u is made = made ∙ rw is (small_word (node_of r f) false (small f u))
@@ -81,21 +81,21 @@ module _ (sizes : Sizes) (within : Within sizes) (m₀ : Memory) (r : Record) wh
   named f false = refl
 
   -- a swap that is accepted
-  pub links-swapped : (at from to : Field) (mark a b d : Bool) (n from-node to-node : Node) (expected new : ℕ) (x : AccessLeft) →
-      a ≡ usableIn at → b ≡ usableIn from → d ≡ usableIn to → (a && b && d) ≡ true →
+  pub links_swapped : (at from to : Field) (mark a b d : Bool) (n from-node to-node : Node) (expected new : ℕ) (x : AccessLeft) →
+      a ≡ usable_in at → b ≡ usable_in from → d ≡ usable_in to → (a && b && d) ≡ true →
       from-node ≡ node_of r from → expected ≡ link_word from-node false % 4294967296 →
       to-node ≡ node_of r to → new ≡ link_word to-node mark % 4294967296 →
       n ≡ node_of r at → x ≡ swap_made (swap_of m₀.links n expected new) →
       x ≡ link_swap m r at (unmarked from) (link_named to mark)
   unfolding link_swap
-  links-swapped at from to mark a b d n from-node to-node expected new x is-a is_b is-d all from_is expects to_is makes at_is made =
-      let b-true : b ≡ true = and_right a b (and_left (a && b) d all) in
-      let d-true : d ≡ true = and_right (a && b) d all in
+  links_swapped at from to mark a b d n from-node to-node expected new x is-a is_b is-d all from_is expects to_is makes at_is made =
+      let b_true : b ≡ true = and_right a b (and_left (a && b) d all) in
+      let d_true : d ≡ true = and_right (a && b) d all in
       made
       ∙ rw (
         at_is,
-        link_fits from false from-node expected (sym is_b ∙ b-true) from_is expects,
-        link_fits to mark to-node new (sym is-d ∙ d-true) to_is makes,
+        link_fits from false from-node expected (sym is_b ∙ b_true) from_is expects,
+        link_fits to mark to-node new (sym is-d ∙ d_true) to_is makes,
         named to mark,
         ← is-a,
         ← is_b,
@@ -104,19 +104,19 @@ module _ (sizes : Sizes) (within : Within sizes) (m₀ : Memory) (r : Record) wh
       )
 
   -- one that is not
-  pub links-stay : (at from to : Field) (mark a b d : Bool) (words : List ℕ) (met : SwapMet) →
-      a ≡ usableIn at → b ≡ usableIn from → d ≡ usableIn to → (a && b && d) ≡ false → words ≡ m₀.links → met ≡ no_swap →
+  pub links_stay : (at from to : Field) (mark a b d : Bool) (words : List ℕ) (met : SwapMet) →
+      a ≡ usable_in at → b ≡ usable_in from → d ≡ usable_in to → (a && b && d) ≡ false → words ≡ m₀.links → met ≡ no_swap →
       access_left words met ≡ link_swap m r at (unmarked from) (link_named to mark)
   unfolding link_swap
-  links-stay at from to mark a b d words met is-a is_b is-d none same unmade = rw (same, unmade, named to mark, ← is-a, ← is_b, ← is-d, none)
+  links_stay at from to mark a b d words met is-a is_b is-d none same unmade = rw (same, unmade, named to mark, ← is-a, ← is_b, ← is-d, none)
 
   -- a write
-  pub link-written : (at to : Field) (a b : Bool) (n to-node : Node) (new : ℕ) (words : List ℕ) →
-      a ≡ usableIn at → b ≡ usableIn to → (a && b) ≡ true →
+  pub link_written_lem : (at to : Field) (a b : Bool) (n to-node : Node) (new : ℕ) (words : List ℕ) →
+      a ≡ usable_in at → b ≡ usable_in to → (a && b) ≡ true →
       n ≡ node_of r at → to-node ≡ node_of r to → new ≡ link_word to-node false % 4294967296 → words ≡ set m₀.links n.0 new →
       write_left words (a && b) ≡ link_written m r at (unmarked to)
   unfolding link_written
-  link-written at to a b n to-node new words is-a is_b all at_is to_is makes made =
+  link_written_lem at to a b n to-node new words is-a is_b all at_is to_is makes made =
       rw (
         made,
         at_is,
@@ -126,7 +126,7 @@ module _ (sizes : Sizes) (within : Within sizes) (m₀ : Memory) (r : Record) wh
         all,
       )
 
-  pub link_stays : (at to : Field) (a b : Bool) (words : List ℕ) → a ≡ usableIn at → b ≡ usableIn to → (a && b) ≡ false → words ≡ m₀.links →
+  pub link_stays : (at to : Field) (a b : Bool) (words : List ℕ) → a ≡ usable_in at → b ≡ usable_in to → (a && b) ≡ false → words ≡ m₀.links →
       write_left words (a && b) ≡ link_written m r at (unmarked to)
   unfolding link_written
   link_stays at to a b words is-a is_b none same = rw (same, ← is-a, ← is_b, none)

@@ -22,7 +22,7 @@ use Rattle.list.specs.declared.access.SwapMet.{SwapMet}
 use Rattle.list.specs.Acting.{left}
 use Rattle.list.specs.Accesses.{link_read, deleter_read, write_left, link_written, access_left, link_swap, deleter_swap}
 use Rattle.list.specs.Rows.{StandsAt, turn_of, acted_as}
-use Rattle.list.proofs.Turns.{read-link, read-deleter, write-node, own-record, hand-out, write-link, swap-link, swap-deleter}
+use Rattle.list.proofs.Turns.{read_link_lem, read_deleter_lem, write_node_lem, own_record_lem, hand_out_lem, write_link_lem, swap_link_lem, swap_deleter_lem}
 
 -- a place and an answer chosen by a test, as one choice of records
 by_mark_6 : (r : Record) (target : Node) (mark : Bool) →
@@ -53,100 +53,100 @@ module _ (m : Memory) (links : List ℕ) (sizes : Sizes) (p : Process) (r : Reco
       abbrev Turned : Type 0
       Turned = a ≡ turn_of read.accepted sizes r x → left lent a ≡ step stood p r
 
-      pub row-0 : StandsAt 0 r → read ≡ link_read stood r head → x ≡ (r ▸ pred≔ head_node ▸ curr≔ read.target ▸ to 1) → Turned
+      pub row_0_lem : StandsAt 0 r → read ≡ link_read stood r head → x ≡ (r ▸ pred≔ head_node ▸ curr≔ read.target ▸ to 1) → Turned
       unfolding row place_of
-      row-0 at is made says = rw says (read-link lent sizes p r 0 at head _ refl read is x made)
+      row_0_lem at is made says = rw says (read_link_lem lent sizes p r 0 at head _ refl read is x made)
 
-      pub row-6 : StandsAt 6 r → read ≡ link_read stood r curr → (place : ℕ) → place ≡ cond read.mark 8 7
+      pub row_6_lem : StandsAt 6 r → read ≡ link_read stood r curr → (place : ℕ) → place ≡ cond read.mark 8 7
           → x ≡ (r ▸ succ≔ read.target ▸ to place) → Turned
       unfolding row place_of
-      row-6 at is place chosen made says =
-          rw says (read-link lent sizes p r 6 at curr _ refl read is x (made ∙ rw chosen (by_mark_6 r read.target read.mark)))
+      row_6_lem at is place chosen made says =
+          rw says (read_link_lem lent sizes p r 6 at curr _ refl read is x (made ∙ rw chosen (by_mark_6 r read.target read.mark)))
 
-      pub row-12 : StandsAt 12 r → read ≡ link_read stood r curr → (answer : ℕ) → answer ≡ cond read.mark false_answer true_answer
+      pub row_12_lem : StandsAt 12 r → read ≡ link_read stood r curr → (answer : ℕ) → answer ≡ cond read.mark false_answer true_answer
           → x ≡ (r ▸ 19 with answer) → Turned
       unfolding row place_of
-      row-12 at is answer chosen made says =
-          rw says (read-link lent sizes p r 12 at curr _ refl read is x (made ∙ rw chosen (by_mark_12 r read.mark)))
+      row_12_lem at is answer chosen made says =
+          rw says (read_link_lem lent sizes p r 12 at curr _ refl read is x (made ∙ rw chosen (by_mark_12 r read.mark)))
 
-      pub row-14 : StandsAt 14 r → read ≡ link_read stood r own → x ≡ cond read.mark (r ▸ 18 with true_answer) (r ▸ 19 with fail_answer) → Turned
+      pub row_14_lem : StandsAt 14 r → read ≡ link_read stood r own → x ≡ cond read.mark (r ▸ 18 with true_answer) (r ▸ 19 with fail_answer) → Turned
       unfolding row place_of
-      row-14 at is made says = rw says (read-link lent sizes p r 14 at own _ refl read is x made)
+      row_14_lem at is made says = rw says (read_link_lem lent sizes p r 14 at own _ refl read is x made)
 
-      pub row-15 : StandsAt 15 r → read ≡ link_read stood r own → (place answer : ℕ) → place ≡ cond read.mark 16 19
+      pub row_15_lem : StandsAt 15 r → read ≡ link_read stood r own → (place answer : ℕ) → place ≡ cond read.mark 16 19
           → answer ≡ cond read.mark r.lost.pending fail_answer → x ≡ (r ▸ place with answer) → Turned
       unfolding row place_of
-      row-15 at is place answer chosen told made says =
-          rw says (read-link lent sizes p r 15 at own _ refl read is x (made ∙ rw (chosen, told) (by_mark_15 r read.mark)))
+      row_15_lem at is place answer chosen told made says =
+          rw says (read_link_lem lent sizes p r 15 at own _ refl read is x (made ∙ rw (chosen, told) (by_mark_15 r read.mark)))
 
-    pub row-5 : (accepted : Bool) → StandsAt 5 r → accepted ≡ usable (in_use stood) r curr → x ≡ (r ▸ node≔ r.lost.curr ▸ to 6)
+    pub row_5_lem : (accepted : Bool) → StandsAt 5 r → accepted ≡ usable (in_use stood) r curr → x ≡ (r ▸ node≔ r.lost.curr ▸ to 6)
         → a ≡ turn_of accepted sizes r x → left lent a ≡ step stood p r
     unfolding row place_of
-    row-5 accepted at is made says = rw (says, made) (write-node lent sizes p r 5 at curr _ refl accepted is)
+    row_5_lem accepted at is made says = rw (says, made) (write_node_lem lent sizes p r 5 at curr _ refl accepted is)
 
     -- the links written or swapped
-    pub row-3 : (words : List ℕ) (accepted : Bool) → StandsAt 3 r → write_left words accepted ≡ link_written stood r own (unmarked curr)
+    pub row_3_lem : (words : List ℕ) (accepted : Bool) → StandsAt 3 r → write_left words accepted ≡ link_written stood r own (unmarked curr)
         → x ≡ (r ▸ to 4) → a ≡ turn_of accepted sizes r x → left (links≔ words m) a ≡ step stood p r
     unfolding row place_of
-    row-3 words accepted at is made says = rw (says, made) (write-link lent sizes p r 3 at own (unmarked curr) _ refl words accepted is)
+    row_3_lem words accepted at is made says = rw (says, made) (write_link_lem lent sizes p r 3 at own (unmarked curr) _ refl words accepted is)
 
   module _ (a : Acted) (done lost : Record) (words : List ℕ) (met : SwapMet) where
     abbrev Swapped : Type 0
     Swapped = a ≡ turn_of met.accepted sizes r (cond met.wrote done lost) → left (links≔ words m) a ≡ step stood p r
 
-    pub row-2 : StandsAt 2 r → access_left words met ≡ link_swap stood r pred (unmarked curr) (unmarked succ)
+    pub row_2_lem : StandsAt 2 r → access_left words met ≡ link_swap stood r pred (unmarked curr) (unmarked succ)
         → done ≡ (r ▸ curr≔ r.lost.succ ▸ to 1) → lost ≡ (r ▸ to 0) → Swapped
     unfolding row place_of
-    row-2 at is d l says = rw (says, d, l) (swap-link lent sizes p r 2 at pred (unmarked curr) (unmarked succ) _ _ refl words met is)
+    row_2_lem at is d l says = rw (says, d, l) (swap_link_lem lent sizes p r 2 at pred (unmarked curr) (unmarked succ) _ _ refl words met is)
 
-    pub row-4 : StandsAt 4 r → access_left words met ≡ link_swap stood r pred (unmarked curr) (unmarked own)
+    pub row_4_lem : StandsAt 4 r → access_left words met ≡ link_swap stood r pred (unmarked curr) (unmarked own)
         → done ≡ (r ▸ 18 with true_answer) → lost ≡ (r ▸ to 0) → Swapped
     unfolding row place_of
-    row-4 at is d l says = rw (says, d, l) (swap-link lent sizes p r 4 at pred (unmarked curr) (unmarked own) _ _ refl words met is)
+    row_4_lem at is d l says = rw (says, d, l) (swap_link_lem lent sizes p r 4 at pred (unmarked curr) (unmarked own) _ _ refl words met is)
 
-    pub row-7 : StandsAt 7 r → access_left words met ≡ link_swap stood r curr (unmarked succ) (marked succ)
+    pub row_7_lem : StandsAt 7 r → access_left words met ≡ link_swap stood r curr (unmarked succ) (marked succ)
         → done ≡ (r ▸ to 6) → lost ≡ (r ▸ to 6) → Swapped
     unfolding row place_of
-    row-7 at is d l says = rw (says, d, l) (swap-link lent sizes p r 7 at curr (unmarked succ) (marked succ) _ _ refl words met is)
+    row_7_lem at is d l says = rw (says, d, l) (swap_link_lem lent sizes p r 7 at curr (unmarked succ) (marked succ) _ _ refl words met is)
 
-    pub row-8 : StandsAt 8 r → access_left words met ≡ link_swap stood r pred (unmarked curr) (unmarked succ)
+    pub row_8_lem : StandsAt 8 r → access_left words met ≡ link_swap stood r pred (unmarked curr) (unmarked succ)
         → done ≡ (r ▸ to 9) → lost ≡ (r ▸ to 9) → Swapped
     unfolding row place_of
-    row-8 at is d l says = rw (says, d, l) (swap-link lent sizes p r 8 at pred (unmarked curr) (unmarked succ) _ _ refl words met is)
+    row_8_lem at is d l says = rw (says, d, l) (swap_link_lem lent sizes p r 8 at pred (unmarked curr) (unmarked succ) _ _ refl words met is)
 
 -- ---- rows that are lent links and deleters
 
 module _ (m : Memory) (links deleters : List ℕ) (sizes : Sizes) (p : Process) (r : Record) where
-  abbrev lentBoth : Memory
-  lentBoth = links≔ links (deleters≔ deleters m)
+  abbrev lent_both : Memory
+  lent_both = links≔ links (deleters≔ deleters m)
 
-  abbrev stoodBoth : Memory
-  stoodBoth = sized sizes lentBoth
+  abbrev stood_both : Memory
+  stood_both = sized sizes lent_both
 
   module _ (a : Acted) (x : Record) where
     module _ (read : DeleterRead) where
       abbrev Told : Type 0
-      Told = a ≡ turn_of read.accepted sizes r x → left lentBoth a ≡ step stoodBoth p r
+      Told = a ≡ turn_of read.accepted sizes r x → left lent_both a ≡ step stood_both p r
 
-      pub row-10 : StandsAt 10 r → read ≡ deleter_read stoodBoth p r curr → x ≡ cond read.mine (r ▸ 18 with true_answer) (r ▸ 18 with false_answer) → Told
+      pub row_10_lem : StandsAt 10 r → read ≡ deleter_read stood_both p r curr → x ≡ cond read.mine (r ▸ 18 with true_answer) (r ▸ 18 with false_answer) → Told
       unfolding row place_of
-      row-10 at is made says = rw says (read-deleter lentBoth sizes p r 10 at curr _ refl read is x made)
+      row_10_lem at is made says = rw says (read_deleter_lem lent_both sizes p r 10 at curr _ refl read is x made)
 
-      pub row-17 : StandsAt 17 r → read ≡ deleter_read stoodBoth p r own → x ≡ cond read.mine (r ▸ 18 with true_answer) (r ▸ 19 with fail_answer) → Told
+      pub row_17_lem : StandsAt 17 r → read ≡ deleter_read stood_both p r own → x ≡ cond read.mine (r ▸ 18 with true_answer) (r ▸ 19 with fail_answer) → Told
       unfolding row place_of
-      row-17 at is made says = rw says (read-deleter lentBoth sizes p r 17 at own _ refl read is x made)
+      row_17_lem at is made says = rw says (read_deleter_lem lent_both sizes p r 17 at own _ refl read is x made)
 
     module _ (words : List ℕ) (met : SwapMet) where
       abbrev Signed : Type 0
-      Signed = a ≡ turn_of met.accepted sizes r x → left (links≔ links (deleters≔ words m)) a ≡ step stoodBoth p r
+      Signed = a ≡ turn_of met.accepted sizes r x → left (links≔ links (deleters≔ words m)) a ≡ step stood_both p r
 
-      pub row-9 : StandsAt 9 r → access_left words met ≡ deleter_swap stoodBoth p r curr → x ≡ (r ▸ to 10) → Signed
+      pub row_9_lem : StandsAt 9 r → access_left words met ≡ deleter_swap stood_both p r curr → x ≡ (r ▸ to 10) → Signed
       unfolding row place_of
-      row-9 at is made says = rw (says, made) (swap-deleter lentBoth sizes p r 9 at curr _ refl words met is)
+      row_9_lem at is made says = rw (says, made) (swap_deleter_lem lent_both sizes p r 9 at curr _ refl words met is)
 
-      pub row-16 : StandsAt 16 r → access_left words met ≡ deleter_swap stoodBoth p r own → x ≡ (r ▸ to 17) → Signed
+      pub row_16_lem : StandsAt 16 r → access_left words met ≡ deleter_swap stood_both p r own → x ≡ (r ▸ to 17) → Signed
       unfolding row place_of
-      row-16 at is made says = rw (says, made) (swap-deleter lentBoth sizes p r 16 at own _ refl words met is)
+      row_16_lem at is made says = rw (says, made) (swap_deleter_lem lent_both sizes p r 16 at own _ refl words met is)
 
 -- ---- rows that are lent nothing
 
@@ -169,17 +169,17 @@ module _ (m : Memory) (sizes : Sizes) (p : Process) (r : Record) (a : Acted) (x 
     abbrev looks : Bool
     looks = eqb r.kept.kind 1 && not (eqb r.kept.node.0 0)
 
-    pub row-13 : StandsAt 13 r → look ≡ cond looks 15 19 → go ≡ cond inserts 0 look → place ≡ cond known 19 go
+    pub row_13_lem : StandsAt 13 r → look ≡ cond looks 15 19 → go ≡ cond inserts 0 look → place ≡ cond known 19 go
         → tell ≡ cond (inserts || looks) r.lost.pending fail_answer → answer ≡ cond known r.kept.result tell → x ≡ (r ▸ place with answer)
         → a ≡ acted_as sizes x Accepted → left m a ≡ step (sized sizes m) p r
     unfolding row place_of
-    row-13 at l g q t w made says =
-        rw (says, made, w, t, q, g, l, resumes r known inserts looks) (own-record m sizes p r 13 at _ refl)
+    row_13_lem at l g q t w made says =
+        rw (says, made, w, t, q, g, l, resumes r known inserts looks) (own_record_lem m sizes p r 13 at _ refl)
 
-  pub row-18 : StandsAt 18 r → x ≡ (r ▸ result≔ r.lost.pending ▸ to 19) → a ≡ acted_as sizes x Accepted → left m a ≡ step (sized sizes m) p r
+  pub row_18_lem : StandsAt 18 r → x ≡ (r ▸ result≔ r.lost.pending ▸ to 19) → a ≡ acted_as sizes x Accepted → left m a ≡ step (sized sizes m) p r
   unfolding row place_of
-  row-18 at made says = rw (says, made) (own-record m sizes p r 18 at _ refl)
+  row_18_lem at made says = rw (says, made) (own_record_lem m sizes p r 18 at _ refl)
 
-  pub row-19 : StandsAt 19 r → x ≡ (r ▸ status≔ idle_status) → a ≡ acted_as sizes x (Answered r.lost.pending) → left m a ≡ step (sized sizes m) p r
+  pub row_19_lem : StandsAt 19 r → x ≡ (r ▸ status≔ idle_status) → a ≡ acted_as sizes x (Answered r.lost.pending) → left m a ≡ step (sized sizes m) p r
   unfolding row place_of
-  row-19 at made says = rw (says, made) (hand-out m sizes p r 19 at _ _ refl)
+  row_19_lem at made says = rw (says, made) (hand_out_lem m sizes p r 19 at _ _ refl)

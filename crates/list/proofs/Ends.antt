@@ -10,8 +10,8 @@ use Rattle.record.specs.declared.Process.{Process}
 use Rattle.record.specs.declared.Record.{Record}
 use Rattle.record.specs.declared.Outcome.TheVariants.{Refused, Accepted}
 use Rattle.table.specs.Words.{Memory, in_use, below, equal}
-use Rattle.table.specs.Places.{Next, goes, uses_own, curr, own, place_of, row, searchEnds}
-use Rattle.table.specs.Steps.{usable, ownUsable, record_after}
+use Rattle.table.specs.Places.{Next, goes, uses_own, curr, own, place_of, row, search_ends}
+use Rattle.table.specs.Steps.{usable, own_usable, record_after}
 use Rattle.table.specs.Events.{step}
 use Rattle.words.specs.LentMemory.{sized}
 use Rattle.words.specs.LentWords.{compared_of}
@@ -23,23 +23,23 @@ use Rattle.list.specs.declared.search.Goal.{Goal}
 use Rattle.list.specs.Acting.{left}
 use Rattle.list.specs.Accesses.{link_read}
 use Rattle.list.specs.Rows.{StandsAt, turn_of, acted_as, EndsAt}
-use Rattle.list.proofs.Turns.{left_unless, read-link-own, read-link}
+use Rattle.list.proofs.Turns.{left_unless, read_link_own, read_link_lem}
 
 -- ---- row 1
 
 -- the use of own that follows from the tests
 module _ (used : Node → Bool) (r : Record) where
-  own-scans : (mark low : Bool) (a b : Record) (x : Next) →
-      cond mark true (cond low true (ownUsable used r x)) ≡ ownUsable used r (cond mark (goes a) (cond low (goes b) x))
-  own-scans true low a b x = refl
-  own-scans false true a b x = refl
-  own-scans false false a b x = refl
+  own_scans : (mark low : Bool) (a b : Record) (x : Next) →
+      cond mark true (cond low true (own_usable used r x)) ≡ own_usable used r (cond mark (goes a) (cond low (goes b) x))
+  own_scans true low a b x = refl
+  own_scans false true a b x = refl
+  own_scans false false a b x = refl
 
-  own-ends : (recovering insert : Bool) (a b d : Record) →
-      cond recovering (usable used r own) true ≡ ownUsable used r (cond recovering (uses_own a) (cond insert (goes b) (goes d)))
-  own-ends true insert a b d = refl
-  own-ends false true a b d = refl
-  own-ends false false a b d = refl
+  own_ends : (recovering insert : Bool) (a b d : Record) →
+      cond recovering (usable used r own) true ≡ own_usable used r (cond recovering (uses_own a) (cond insert (goes b) (goes d)))
+  own_ends true insert a b d = refl
+  own_ends false true a b d = refl
+  own_ends false false a b d = refl
 
 -- own as the code tests it
 own_tested : (mark low recovering fits : Bool) →
@@ -62,11 +62,11 @@ module _ (r : Record) (target : Node) where
       cond (not mark && low) onward found
       ▸ cond mark 2 (cond low 1 ends.place) with cond (mark || low) r.lost.pending ends.answer
 
-  scan-chooses : (mark low : Bool) (ends : Goal) (x : Next) → (found ▸ ends.place with ends.answer) ≡ record_after x →
+  scan_chooses : (mark low : Bool) (ends : Goal) (x : Next) → (found ▸ ends.place with ends.answer) ≡ record_after x →
       chosen mark low ends ≡ record_after (cond mark (goes (found ▸ to 2)) (cond low (goes (onward ▸ to 1)) x))
-  scan-chooses true low ends x h = refl
-  scan-chooses false true ends x h = refl
-  scan-chooses false false ends x h = h
+  scan_chooses true low ends x h = refl
+  scan_chooses false true ends x h = refl
+  scan_chooses false false ends x h = h
 
 -- where the step does not fit, each field chosen is the one that was there
 scan_left : (r : Record) (fits mark low : Bool) (target : Node) (place answer : ℕ) →
@@ -78,10 +78,10 @@ scan_left r true mark low target place answer = refl
 scan_left r false mark low target place answer = refl
 
 -- of what its calls told
-module _ (m : Memory) (sizes : Sizes) (p : Process) (r : Record) (read : LinkRead) (order : Compared) (own-usable : Bool) (ends : Goal)
+module _ (m : Memory) (sizes : Sizes) (p : Process) (r : Record) (read : LinkRead) (order : Compared) (own_usable_lem : Bool) (ends : Goal)
     (at : StandsAt 1 r) (is : read ≡ link_read (sized sizes m) r curr)
     (o : order ≡ compared_of m.addresses (cond read.accepted r.lost.curr head_node) r.kept.address)
-    (u : own-usable ≡ usable (in_use (sized sizes m)) r own)
+    (u : own_usable_lem ≡ usable (in_use (sized sizes m)) r own)
     (e : EndsAt r.lost.recovering (eqb r.lost.curr.0 r.kept.node.0) (eqb r.kept.kind 0) order.equal r.lost.pending ends) where
   abbrev used : Node → Bool
   used = in_use (sized sizes m)
@@ -91,7 +91,7 @@ module _ (m : Memory) (sizes : Sizes) (p : Process) (r : Record) (read : LinkRea
 
   abbrev follows : Node → Bool → Next
   follows target mark =
-      cond mark (goes (found r target ▸ to 2)) (cond low (goes (onward r target ▸ to 1)) (searchEnds m.addresses (found r target)))
+      cond mark (goes (found r target ▸ to 2)) (cond low (goes (onward r target ▸ to 1)) (search_ends m.addresses (found r target)))
 
   abbrev next : Next
   next = follows read.target read.mark
@@ -100,32 +100,32 @@ module _ (m : Memory) (sizes : Sizes) (p : Process) (r : Record) (read : LinkRea
   compared : read.accepted ≡ true → order ≡ compared_of m.addresses r.lost.curr r.kept.address
   compared h = o ∙ rw h refl
 
-  own_is : (s : Record) → s ≡ found r read.target → cond r.lost.recovering (usable used r own) true ≡ ownUsable used r (searchEnds m.addresses s)
-  unfolding searchEnds
-  own_is s found-is = rw found-is (own-ends used r r.lost.recovering (eqb r.kept.kind insert_kind) _ _ _)
+  own_is : (s : Record) → s ≡ found r read.target → cond r.lost.recovering (usable used r own) true ≡ own_usable used r (search_ends m.addresses s)
+  unfolding search_ends
+  own_is s found-is = rw found-is (own_ends used r r.lost.recovering (eqb r.kept.kind insert_kind) _ _ _)
 
   abbrev fits : Bool
-  fits = read.accepted && (((read.mark || order.below) || not r.lost.recovering) || own-usable)
+  fits = read.accepted && (((read.mark || order.below) || not r.lost.recovering) || own_usable_lem)
 
-  own-fits : read.accepted ≡ true → (((read.mark || order.below) || not r.lost.recovering) || own-usable) ≡ ownUsable used r next
+  own_fits : read.accepted ≡ true → (((read.mark || order.below) || not r.lost.recovering) || own_usable_lem) ≡ own_usable used r next
   unfolding compared_of
-  own-fits h =
+  own_fits h =
       rw (compared h, u)
-      (own_tested read.mark low r.lost.recovering (usable used r own) ∙ rw (own_is _ refl) (own-scans used r read.mark low _ _ _))
+      (own_tested read.mark low r.lost.recovering (usable used r own) ∙ rw (own_is _ refl) (own_scans used r read.mark low _ _ _))
 
-  fits-is : fits ≡ (read.accepted && ownUsable used r next)
-  fits-is = by-test read.accepted (λ h. rw h (own-fits h)) (λ h. rw h refl)
+  fits_is : fits ≡ (read.accepted && own_usable used r next)
+  fits_is = by-test read.accepted (λ h. rw h (own_fits h)) (λ h. rw h refl)
 
   follows_is : read.accepted ≡ true → chosen r read.target read.mark order.below ends ≡ record_after next
   unfolding compared_of EndsAt
   follows_is h =
       ap (λ (b : Bool). chosen r read.target read.mark b ends) (ap (λ (x : Compared). x.below) (compared h))
-      ∙ scan-chooses r read.target read.mark low ends _
+      ∙ scan_chooses r read.target read.mark low ends _
       (e m.addresses (found r read.target) refl refl refl (ap (λ (x : Compared). x.equal) (sym (compared h))) refl)
 
   scans : left m (turn_of fits sizes r (chosen r read.target read.mark order.below ends)) ≡ step (sized sizes m) p r
   unfolding row place_of
-  scans = read-link-own m sizes p r 1 at curr follows refl read is fits _ fits-is follows_is
+  scans = read_link_own m sizes p r 1 at curr follows refl read is fits _ fits_is follows_is
 
   pub scanned : (low-place next_place next-answer : ℕ) (onto : Node) (place answer : ℕ) (x : Record) (a : Acted) →
       low-place ≡ cond order.below 1 ends.place →
@@ -180,4 +180,4 @@ module _ (m : Memory) (sizes : Sizes) (p : Process) (r : Record) (read : LinkRea
       (ap (left m)
       (ap (λ (y : Record). acted_as sizes y (cond read.accepted Accepted (Refused 8))) (walk_left r read.accepted read.target _ _)
       ∙ left_unless read.accepted sizes r _)
-      ∙ read-link m sizes p r 11 at curr _ refl read is _ (walk_chooses r read.target low same))
+      ∙ read_link_lem m sizes p r 11 at curr _ refl read is _ (walk_chooses r read.target low same))

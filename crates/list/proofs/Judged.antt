@@ -62,9 +62,9 @@ module _ (addresses links deleters : List ℕ) (sizes : Sizes) (p : Process) (r 
     not_there past a made = rw (made, ← is, fit, le-ltb p.0 sizes.processes past) refl
 
     module _ (there : p.0 < sizes.processes) (needed : ℕ) (needs : needed ≡ status_needed x) where
-      pub not-ready : (r.kept.status ≡ needed → ⊥) → (a : Acted) → a ≡ acted_as sizes r (Refused 2) → left m a ≡ act m p r x
+      pub not_ready : (r.kept.status ≡ needed → ⊥) → (a : Acted) → a ≡ acted_as sizes r (Refused 2) → left m a ≡ act m p r x
       unfolding act refusal_in
-      not-ready other a made =
+      not_ready other a made =
           rw (made, ← is, fit, lt-ltb p.0 sizes.processes there, ← needs, ne_eqb r.kept.status needed other) refl
 
       pub acts : r.kept.status ≡ needed → (d : Left) → d ≡ does m p r x → d ≡ act m p r x

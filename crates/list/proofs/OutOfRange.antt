@@ -20,13 +20,13 @@ module _ (m : Memory) (sizes : Sizes) (p : Process) (r : Record) where
   unfolding step turn_in
   out_of_range h = rw h
 
-  pub off-the-table : (a : Acted) → a ≡ acted_as sizes r (Refused 8) → 19 < r.lost.place → left m a ≡ step (sized sizes m) p r
-  off-the-table a is off = rw is (out_of_range (unfold in_range in rw (lt-leb r.lost.place 19 off)))
+  pub off_the_table : (a : Acted) → a ≡ acted_as sizes r (Refused 8) → 19 < r.lost.place → left m a ≡ step (sized sizes m) p r
+  off_the_table a is off = rw is (out_of_range (unfold in_range in rw (lt-leb r.lost.place 19 off)))
 
   -- what a test of the ranges told
-  pub refused-8 : (ranged : Bool) → ranged ≡ in_range r → (a : Acted) → a ≡ acted_as sizes r (Refused 8) → ranged ≡ false →
+  pub refused_8 : (ranged : Bool) → ranged ≡ in_range r → (a : Acted) → a ≡ acted_as sizes r (Refused 8) → ranged ≡ false →
       left m a ≡ step (sized sizes m) p r
-  refused-8 ranged e a is h = rw is (out_of_range (sym e ∙ h))
+  refused_8 ranged e a is h = rw is (out_of_range (sym e ∙ h))
 
 pub in_range_lem : (r : Record) (ranged : Bool) → ranged ≡ in_range r → ranged ≡ true → in_range r ≡ true
 in_range_lem r ranged e h = sym e ∙ h

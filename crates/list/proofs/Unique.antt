@@ -8,10 +8,10 @@ use Rattle.list.specs.declared.Acted.{Acted}
 use Rattle.list.specs.Acting.{left}
 
 module _ (d : Left) (addresses' links' deleters' addresses'' links'' deleters'' : List ℕ) (answer' answer'' : Acted) where
-  pub act-unique : left (lent_memory addresses' links' deleters' answer'.sizes) answer' ≡ d →
+  pub act_unique : left (lent_memory addresses' links' deleters' answer'.sizes) answer' ≡ d →
       left (lent_memory addresses'' links'' deleters'' answer''.sizes) answer'' ≡ d →
       (addresses' ≡ addresses'') × (links' ≡ links'') × (deleters' ≡ deleters'') × (answer' ≡ answer'')
-  act-unique one other =
+  act_unique one other =
       let same = one ∙ sym other in (
         λ i. (same i).memory.addresses,
         λ i. (same i).memory.links,

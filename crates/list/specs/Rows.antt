@@ -7,7 +7,7 @@ use Rattle.record.specs.declared.Record.{Record}
 use Rattle.record.specs.declared.Outcome.{Outcome}
 use Rattle.record.specs.declared.Outcome.TheVariants.{Refused, Accepted}
 use Rattle.table.specs.Words.{Memory, in_use, equal}
-use Rattle.table.specs.Places.{searchEnds}
+use Rattle.table.specs.Places.{search_ends}
 use Rattle.table.specs.Steps.{in_range, record_after}
 use Rattle.words.specs.LentMemory.{sized}
 use Rattle.words.specs.declared.Sizes.{Sizes}
@@ -45,4 +45,4 @@ EndsAt recovering at_own inserts same pending goal =
     eqb r.kept.kind insert_kind ≡ inserts →
     equal addresses r.lost.curr r.kept.address ≡ same →
     r.lost.pending ≡ pending →
-    (r ▸ goal.place with goal.answer) ≡ record_after (searchEnds addresses r)
+    (r ▸ goal.place with goal.answer) ≡ record_after (search_ends addresses r)

@@ -12,7 +12,7 @@ use Rattle.run.specs.Filling.{Stop, stop}
 use Rattle.run.specs.Pieces.{World, world, fills}
 use Rattle.blocks.specs.ToCome.{to_come}
 use Rattle.blocks.proofs.Comes.{Numbered}
-use Rattle.blocks.proofs.Blocks.{falls-by, gets-on}
+use Rattle.blocks.proofs.Blocks.{falls_by, gets_on}
 use Rattle.printer.specs.Printing.{FilledTo, Printed}
 
 module _ {file out : List ℕ} (m : Memory) {begins start : World} {run : Run} {count : ℕ} (w : World) (block : List ℕ) (begin : start ≡ begins)
@@ -41,8 +41,8 @@ module _ {file out : List ℕ} (m : Memory) {begins start : World} {run : Run} {
             ap (λ (x : Stop World). length (to_come file x.state)) filled in
             ⊎_elim
             (λ (some : 0 < (fills file w block).count). absurd (omega arith))
-            (λ (nothing : to_come file w ≡ []). omega (arith, falls-by file w numbered block, ap length nothing))
-            (gets-on file w numbered block (omega arith));
+            (λ (nothing : to_come file w ≡ []). omega (arith, falls_by file w numbered block, ap length nothing))
+            (gets_on file w numbered block (omega arith));
       }
 
 -- the answer that was told, as it is known

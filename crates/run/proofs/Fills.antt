@@ -32,21 +32,21 @@ module _ (bytes block part : List ℕ) (at count : ℕ) (inside : at ≤ length 
   grows e =
       let f : put part count ≡ puts bytes (drop at block) = rw rest_is at e in
       let part_is : part ≡ bytes ++ drop (length bytes) (drop at block) = (λ i. (f i).part) in
-      let count-is : count ≡ length bytes = (λ i. (f i).count) in
+      let count_is : count ≡ length bytes = (λ i. (f i).count) in
       let all : length part ≡ length bytes + length (drop (length bytes) (drop at block)) = ap length part_is ∙ simp length-append in
       let same = same_len_mid at (length block - at) block part kept in
       record {
         laid_is = rest_back block part at ∙ ap (λ (l : List ℕ). take at block ++ l) part_is;
-        at_is = ap (λ (k : ℕ). at + k) count-is;
+        at_is = ap (λ (k : ℕ). at + k) count_is;
         same_length = same;
         within = omega (arith, length_rest block at);
         less = omega (arith, length_rest block at);
       }
 
   -- a writer that asks for room has it
-  pub grows-into : 64 ≤ length block - at → put part count ≡ put_into bytes (take (length block - at) (drop at block))
+  pub grows_into : 64 ≤ length block - at → put part count ≡ put_into bytes (take (length block - at) (drop at block))
       → Grows bytes block (put_mid at (length block - at) block part) at (at + count)
-  grows-into room e = grows (e ∙ roomy bytes _ (omega (arith, length_rest block at)))
+  grows_into room e = grows (e ∙ roomy bytes _ (omega (arith, length_rest block at)))
 
 -- ---- a turn of filling
 
@@ -71,10 +71,10 @@ module _ {S : Type 0} (next : S → NextPiece S) (s : S) (block : List ℕ) (at 
   full (suc turns) r = rw (lt-ltb (length block - at) 64 r)
 
   -- nothing more to put
-  pub at-end : (turns : ℕ) → next s ≡ nothing → stop s block at ≡ fill_from next turns s block at
+  pub at_end : (turns : ℕ) → next s ≡ nothing → stop s block at ≡ fill_from next turns s block at
   unfolding fill_from
-  at-end zero e = refl
-  at-end (suc turns) e = rw e (same_either (ltb (length block - at) 64) (stop s block at))
+  at_end zero e = refl
+  at_end (suc turns) e = rw e (same_either (ltb (length block - at) 64) (stop s block at))
 
   -- one piece put
   pub onward : {whole : Stop S} {bytes block' : List ℕ} {at' : ℕ} {t : S} → FillsTo next s block at whole → 64 ≤ length block - at

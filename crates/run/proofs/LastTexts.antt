@@ -27,14 +27,14 @@ stopped_put number refusal part mid last k m first second room same few =
 
 -- by what was read
 module _ (number : ℕ) (r : EventRead) (part : List ℕ) where
-  pub last-got : (e : Event) (next : Cursor) → r ≡ read.Got e next → put part 0 ≡ puts (last_text number r) part
+  pub last_got : (e : Event) (next : Cursor) → r ≡ read.Got e next → put part 0 ≡ puts (last_text number r) part
   unfolding last_text
-  last-got e next is = puts_same (last_text number) _ _ part _ is refl
+  last_got e next is = puts_same (last_text number) _ _ part _ is refl
 
   pub last_end : (x : Put) → r ≡ read.End → x ≡ put_into keys_word part → 64 ≤ length part → x ≡ puts (last_text number r) part
   unfolding last_text
   last_end x is e room = puts_same (last_text number) _ _ part x is (e ∙ roomy keys_word part (omega arith))
 
-  pub last-refused : (n : ℕ) (x : Put) → r ≡ read.Refused n → x ≡ puts (stopped_text number n) part → x ≡ puts (last_text number r) part
+  pub last_refused : (n : ℕ) (x : Put) → r ≡ read.Refused n → x ≡ puts (stopped_text number n) part → x ≡ puts (last_text number r) part
   unfolding last_text
-  last-refused n x is e = puts_same (last_text number) _ _ part x is e
+  last_refused n x is e = puts_same (last_text number) _ _ part x is e

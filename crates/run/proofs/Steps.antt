@@ -24,7 +24,7 @@ use Rattle.table.specs.Words.{Memory, addresses≔, links≔}
 use Rattle.table.specs.Events.{State, Left, leaving, act, event, stored, record_in, Leaves}
 use Rattle.table.proofs.Laws.Events.{refused_act_changes_nothing}
 use Rattle.table.proofs.Laws.Fitting.{limits}
-use Rattle.table.proofs.Laws.Meets.{event-by-slot}
+use Rattle.table.proofs.Laws.Meets.{event_by_slot}
 use Rattle.words.specs.LentMemory.{sized}
 use Rattle.words.specs.declared.Sizes.{Sizes}
 use Rattle.words.specs.LentWords.{slot_of}
@@ -43,7 +43,7 @@ use Rattle.schedule.specs.contracts.EventRead as event_read_lem
 use Rattle.chain.specs.Walking.{ahead_from}
 use Rattle.chain.specs.declared.Ahead.{Ahead}
 use Rattle.chain.specs.declared.Ahead.TheVariants as ahead
-use Rattle.chain.proofs.Walks.{Stops, told-next, told-stops}
+use Rattle.chain.proofs.Walks.{Stops, told_next, told_stops}
 use Rattle.text.specs.Text.{line, decimal, space, newline}
 use Rattle.text.specs.Put.{put, put_into}
 use Rattle.text.proofs.Lengths.{line_some}
@@ -54,7 +54,7 @@ use Rattle.run.specs.Filling.{piece, nothing, stop, fill_from}
 use Rattle.run.specs.Pieces.{World, world, run_of, memory_of, table_of, in_phase, next_number, went_on, to_walk}
 use Rattle.run.specs.Pieces.{event_next, put_ahead, address_next, next_piece, fills, refusing, start_of, begins}
 use Rattle.run.specs.PrivatePromises.{Ready, HasPiece, stops_at, PutsNext, stopped_text, last_text}
-use Rattle.run.proofs.Fills.{FillsTo, full, at-end}
+use Rattle.run.proofs.Fills.{FillsTo, full, at_end}
 
 -- ---- the record of an event's process, in a row of 64
 
@@ -65,12 +65,12 @@ own_slot processes p few there = rw (lt-ltb p.0 processes there, lt-ltb p.0 64 (
 
 module _ (σ : State) (row : length σ.row ≡ 64) (e : Event) where
   -- what an event leaves, worked on the record at a place
-  abbrev workedAt : ℕ → Leaves
-  workedAt at = stored σ (process at) (act σ.memory e.process (record_in σ (process at)) e.action)
+  abbrev worked_at : ℕ → Leaves
+  worked_at at = stored σ (process at) (act σ.memory e.process (record_in σ (process at)) e.action)
 
-  event-at : (at : ℕ) → at ≡ slot_of σ.memory.processes e.process.0 → event σ e ≡ workedAt at
-  event-at at is =
-      event-by-slot σ e (process at) (omega arith)
+  event_at_lem : (at : ℕ) → at ≡ slot_of σ.memory.processes e.process.0 → event σ e ≡ worked_at at
+  event_at_lem at is =
+      event_by_slot σ e (process at) (omega arith)
       (λ fit there. ap process is ∙ own_slot σ.memory.processes e.process (limits σ.memory fit).few_processes there)
 
 -- ---- the pieces
@@ -113,17 +113,17 @@ module _ (m : Memory) (run : Run) (acting : run.phase ≡ Acting) (row : length 
   abbrev after : World
   after = world m' (run_of run.phase next x.sizes number row')
 
-  goes_on : piece (line run.number (workedAt (table_of w) row e at).outcome) (went_on w next (workedAt (table_of w) row e at).after)
+  goes_on : piece (line run.number (worked_at (table_of w) row e at).outcome) (went_on w next (worked_at (table_of w) row e at).after)
       ≡ piece (line run.number x.outcome) after
   unfolding stored record_in
   goes_on = rw (following, stores, ← is)
 
-  pub acted-piece : (file : List ℕ) → event_at file run.cursor ≡ read.Got e next
+  pub acted_piece : (file : List ℕ) → event_at file run.cursor ≡ read.Got e next
       → next_piece file w ≡ piece (line run.number x.outcome) after
-  acted-piece file h =
+  acted_piece file h =
       acting_piece file w acting
       ∙ got_piece file w e next h
-      ∙ ap (λ (y : Leaves). piece (line run.number y.outcome) (went_on w next y.after)) (event-at (table_of w) row e at slot)
+      ∙ ap (λ (y : Leaves). piece (line run.number y.outcome) (went_on w next y.after)) (event_at_lem (table_of w) row e at slot)
       ∙ goes_on
 
 -- what follows the last event
@@ -165,31 +165,31 @@ walking_piece file w n e = rw e
 
 -- by the promise of `onward`
 module _ (w : World) (file : List ℕ) (n : Node) (walking : w.run.phase ≡ Walking n) (x : Ahead) (told : x ≡ ahead_from (memory_of w) n) where
-  pub onto-piece : (next : Node) (a : Address) → x ≡ ahead.Next next a
+  pub onto_piece : (next : Node) (a : Address) → x ≡ ahead.Next next a
       → next_piece file w ≡ piece (space ∷ decimal a.0) (in_phase (Walking next) w)
   unfolding address_next
-  onto-piece next a e =
-      let met = told-next (memory_of w) n x told next a e in
+  onto_piece next a e =
+      let met = told_next (memory_of w) n x told next a e in
       walking_piece file w n walking ∙ rw met.1 (ap (put_ahead w) met.0)
 
-  pub end-piece : Stops x → next_piece file w ≡ piece (newline ∷ []) (in_phase Over w)
+  pub end_piece : Stops x → next_piece file w ≡ piece (newline ∷ []) (in_phase Over w)
   unfolding address_next
-  end-piece stops =
+  end_piece stops =
       walking_piece file w n walking
-      ∙ told-stops (memory_of w) n x told (λ y. put_ahead w y ≡ piece (newline ∷ []) (in_phase Over w)) stops refl refl refl
+      ∙ told_stops (memory_of w) n x told (λ y. put_ahead w y ≡ piece (newline ∷ []) (in_phase Over w)) stops refl refl refl
 
 -- ---- how a run begins
 
 -- by what the reader gave, and the tables made fresh
 module _ (file : List ℕ) (m : Memory) (read : HeaderRead) (r : Run) (is : read ≡ header_at file start) where
-  pub begin-got : (m' : Memory) (h : Header) (next : Cursor) (made : Made) → read ≡ header.Got h next
+  pub begin_got : (m' : Memory) (h : Header) (next : Cursor) (made : Made) → read ≡ header.Got h next
       → tables_left m' made ≡ fresh_tables (sized (fresh_sizes h.nodes h.processes) m) → r ≡ start_of next made → world m' r ≡ begins file m
   unfolding begins
-  begin-got m' h next made got fresh starts = rw (sym is ∙ got, begins, ← fresh, starts)
+  begin_got m' h next made got fresh starts = rw (sym is ∙ got, begins, ← fresh, starts)
 
-  pub begin-refused : (number : ℕ) → read ≡ header.Refused number → r ≡ refusing number → world m r ≡ begins file m
+  pub begin_refused : (number : ℕ) → read ≡ header.Refused number → r ≡ refusing number → world m r ≡ begins file m
   unfolding begins
-  begin-refused number refused starts = rw (sym is ∙ refused, begins, starts)
+  begin_refused number refused starts = rw (sym is ∙ refused, begins, starts)
 
 -- ---- where filling stands
 
@@ -208,7 +208,7 @@ stops_here file w block at turns told = by w.run.phase refl told
     by (Refusing n) e t = full (next_piece file) w block at turns (ltb-true _ _ t)
     by Acting e t = full (next_piece file) w block at turns (ltb-true _ _ t)
     by (Walking n) e t = full (next_piece file) w block at turns (ltb-true _ _ t)
-    by Over e t = at-end (next_piece file) w block at turns (over_nothing file w e)
+    by Over e t = at_end (next_piece file) w block at turns (over_nothing file w e)
 
 -- otherwise there is room, and a piece comes, where no event is left for it
 pub still_comes : (room : ℕ) (phase : Phase) → stops_at room phase ≡ false → Ready phase room → (64 ≤ room) × HasPiece phase
@@ -229,9 +229,9 @@ next_known addresses links sizes phase known part left count after is so =
     subst (λ x. PutsNext addresses links sizes x part left count after) (sym is) so
 
 module _ (part left : List ℕ) (count : ℕ) where
-  pub refusal-put : (addresses links : List ℕ) (sizes : Sizes) (phase : Phase) (number : ℕ) → phase ≡ Refusing number
+  pub refusal_put : (addresses links : List ℕ) (sizes : Sizes) (phase : Phase) (number : ℕ) → phase ≡ Refusing number
       → put left count ≡ put_into (line 0 (outcome.Refused number)) part → PutsNext addresses links sizes phase part left count Over
-  refusal-put addresses links sizes phase number is placed file m cursor n row = record {
+  refusal_put addresses links sizes phase number is placed file m cursor n row = record {
     bytes = line 0 (outcome.Refused number);
     comes = refusal_piece file _ number is;
     some = line_some 0 (outcome.Refused number);
@@ -241,20 +241,20 @@ module _ (part left : List ℕ) (count : ℕ) where
 
   module _ (addresses links : List ℕ) (sizes : Sizes) (n : Node) (x : Ahead)
       (told : (m : Memory) → x ≡ ahead_from (sized sizes (links≔ links (addresses≔ addresses m))) n) where
-    pub address-put : (next : Node) (a : Address) → x ≡ ahead.Next next a → put left count ≡ put_into (space ∷ decimal a.0) part
+    pub address_put : (next : Node) (a : Address) → x ≡ ahead.Next next a → put left count ≡ put_into (space ∷ decimal a.0) part
         → PutsNext addresses links sizes (Walking n) part left count (Walking next)
-    address-put next a is placed file m cursor number row = record {
+    address_put next a is placed file m cursor number row = record {
       bytes = space ∷ decimal a.0;
-      comes = onto-piece _ file n refl x (told m) next a is;
+      comes = onto_piece _ file n refl x (told m) next a is;
       some = omega arith;
       placed = placed;
       ready = λ room. tt;
     }
 
-    pub newline-put : Stops x → put left count ≡ put_into (newline ∷ []) part → PutsNext addresses links sizes (Walking n) part left count Over
-    newline-put stops placed file m cursor number row = record {
+    pub newline_put : Stops x → put left count ≡ put_into (newline ∷ []) part → PutsNext addresses links sizes (Walking n) part left count Over
+    newline_put stops placed file m cursor number row = record {
       bytes = newline ∷ [];
-      comes = end-piece _ file n refl x (told m) stops;
+      comes = end_piece _ file n refl x (told m) stops;
       some = omega arith;
       placed = placed;
       ready = λ room. tt;

@@ -20,15 +20,15 @@ module _ (a₁ a₂ l₁ l₂ d₁ d₂ : List ℕ) (r₁ r₂ : Run) where
   abbrev Same : Type 0
   Same = (a₁ ≡ a₂) × (l₁ ≡ l₂) × (d₁ ≡ d₂) × (r₁ ≡ r₂)
 
-  same-world : one ≡ other → Same
-  same-world e = (λ i. (e i).memory.addresses, λ i. (e i).memory.links, λ i. (e i).memory.deleters, λ i. (e i).run)
+  same_world : one ≡ other → Same
+  same_world e = (λ i. (e i).memory.addresses, λ i. (e i).memory.links, λ i. (e i).memory.deleters, λ i. (e i).run)
 
-  pub begin-is-unique : (file : List ℕ) (m : Memory) → one ≡ begins file m → other ≡ begins file m → Same
-  begin-is-unique file m p q = same-world (p ∙ sym q)
+  pub begin_is_unique : (file : List ℕ) (m : Memory) → one ≡ begins file m → other ≡ begins file m → Same
+  begin_is_unique file m p q = same_world (p ∙ sym q)
 
-  pub fill-is-unique : (file : List ℕ) (w : World) (block b₁ b₂ : List ℕ) (n₁ n₂ : ℕ) → stop one b₁ n₁ ≡ fills file w block
+  pub fill_is_unique : (file : List ℕ) (w : World) (block b₁ b₂ : List ℕ) (n₁ n₂ : ℕ) → stop one b₁ n₁ ≡ fills file w block
       → stop other b₂ n₂ ≡ fills file w block → Same × (b₁ ≡ b₂) × (n₁ ≡ n₂)
-  fill-is-unique file w block b₁ b₂ n₁ n₂ p q = let e = p ∙ sym q in (same-world (λ i. (e i).state), λ i. (e i).block, λ i. (e i).count)
+  fill_is_unique file w block b₁ b₂ n₁ n₂ p q = let e = p ∙ sym q in (same_world (λ i. (e i).state), λ i. (e i).block, λ i. (e i).count)
 
 pub in_phase_is_unique : (run : Run) (phase : Phase) (r₁ r₂ : Run) → r₁ ≡ phase≔ phase run → r₂ ≡ phase≔ phase run → r₁ ≡ r₂
 in_phase_is_unique run phase r₁ r₂ p q = p ∙ sym q

@@ -11,23 +11,23 @@ use Rattle.schedule.specs.declared.writing.Numbers.{Numbers}
 use Rattle.schedule.specs.Inside.Laying.{tail_bytes, bytes_of}
 
 module _ (x : Numbers) where
-  all-size : length (bytes_of x) ≡ length (number_bytes x.first) + length (tail_bytes x)
-  all-size = length-append (number_bytes x.first) (tail_bytes x)
+  all_size : length (bytes_of x) ≡ length (number_bytes x.first) + length (tail_bytes x)
+  all_size = length-append (number_bytes x.first) (tail_bytes x)
 
-  pub all-some : 1 ≤ length (bytes_of x)
-  all-some = omega (arith, all-size, number_size x.first)
+  pub all_some : 1 ≤ length (bytes_of x)
+  all_some = omega (arith, all_size, number_size x.first)
 
-  pub tail-of-two : x.three ≡ false → tail_bytes x ≡ number_bytes x.second
-  tail-of-two e = rw e (append-nil (number_bytes x.second))
+  pub tail_of_two : x.three ≡ false → tail_bytes x ≡ number_bytes x.second
+  tail_of_two e = rw e (append-nil (number_bytes x.second))
 
-  pub tail-of-three : x.three ≡ true → tail_bytes x ≡ number_bytes x.second ++ number_bytes x.third
-  tail-of-three e = rw e
+  pub tail_of_three : x.three ≡ true → tail_bytes x ≡ number_bytes x.second ++ number_bytes x.third
+  tail_of_three e = rw e
 
   -- by the bytes of each number
   module _ (first second : ℕ) (is-first : first ≡ length (number_bytes x.first)) (is-second : second ≡ length (number_bytes x.second)) where
-    pub size-of-two : x.three ≡ false → first + second ≡ length (bytes_of x)
-    size-of-two e = omega (arith, all-size, ap length (tail-of-two e))
+    pub size_of_two : x.three ≡ false → first + second ≡ length (bytes_of x)
+    size_of_two e = omega (arith, all_size, ap length (tail_of_two e))
 
-    pub size-of-three : (third : ℕ) → third ≡ length (number_bytes x.third) → x.three ≡ true → first + second + third ≡ length (bytes_of x)
-    size-of-three third is-third e =
-        omega (arith, all-size, ap length (tail-of-three e), length-append (number_bytes x.second) (number_bytes x.third))
+    pub size_of_three : (third : ℕ) → third ≡ length (number_bytes x.third) → x.three ≡ true → first + second + third ≡ length (bytes_of x)
+    size_of_three third is-third e =
+        omega (arith, all_size, ap length (tail_of_three e), length-append (number_bytes x.second) (number_bytes x.third))

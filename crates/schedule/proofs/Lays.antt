@@ -12,7 +12,7 @@ use lib.Seq.{take-length, length-take-le}
 use Rattle.record.specs.declared.Event.{Event}
 use Rattle.basics.proofs.Rest.{rest_is, rest_back}
 use Rattle.table.specs.Events.{sizes_fit}
-use Rattle.basics.proofs.Tests.{if-le}
+use Rattle.basics.proofs.Tests.{if_le}
 use Rattle.numbers.specs.Numbers.{number_bytes}
 use Rattle.schedule.specs.declared.Header.{Header}
 use Rattle.schedule.specs.declared.Written.{Written}
@@ -21,7 +21,7 @@ use Rattle.schedule.specs.declared.writing.Numbers.{Numbers}
 use Rattle.schedule.specs.Encoding.{header_bytes, event_bytes}
 use Rattle.schedule.specs.Writing.{Wrote, room, laid, wrote, answered, put_at, written_header, written_event}
 use Rattle.schedule.specs.Inside.Laying.{two, tail_bytes, bytes_of, fitted, all_or_none, put_in_rest}
-use Rattle.schedule.proofs.BytesNeeded.{tail-of-two, tail-of-three}
+use Rattle.schedule.proofs.BytesNeeded.{tail_of_two, tail_of_three}
 
 -- ---- bytes laid as far as there is room
 
@@ -59,14 +59,14 @@ fitted_then a b out mid new at e n f =
 
 -- the second number, and the third where there is one
 module _ (x : Numbers) (out mid : List ℕ) (e : mid ≡ fitted (number_bytes x.second) out) where
-  pub two-laid : x.three ≡ false → mid ≡ fitted (tail_bytes x) out
-  two-laid is = rw (tail-of-two x is) e
+  pub two_laid : x.three ≡ false → mid ≡ fitted (tail_bytes x) out
+  two_laid is = rw (tail_of_two x is) e
 
-  pub three-laid : (new : List ℕ) (at : ℕ) → x.three ≡ true → at ≡ min (length (number_bytes x.second)) (length out)
+  pub three_laid : (new : List ℕ) (at : ℕ) → x.three ≡ true → at ≡ min (length (number_bytes x.second)) (length out)
       → new ≡ fitted (number_bytes x.third) (take (length mid - at) (drop at mid))
       → put_mid at (length mid - at) mid new ≡ fitted (tail_bytes x) out
-  three-laid new at is n f =
-      rw (tail-of-three x is) (fitted_then (number_bytes x.second) (number_bytes x.third) out mid new at e n f)
+  three_laid new at is n f =
+      rw (tail_of_three x is) (fitted_then (number_bytes x.second) (number_bytes x.third) out mid new at e n f)
 
 -- ---- all the bytes in the rest of the output, or none
 
@@ -77,15 +77,15 @@ module _ (bytes rest new : List ℕ) (at needed left count : ℕ)
   pub none_put : count < needed → wrote (new ++ drop count rest) at 9 ≡ put_in_rest bytes rest at
   unfolding all_or_none put_in_rest
   none_put h =
-      if-le (λ (k : ℕ). count ≡ k → wrote (new ++ drop count rest) at 9 ≡ put_in_rest bytes rest at) needed left
+      if_le (λ (k : ℕ). count ≡ k → wrote (new ++ drop count rest) at 9 ≡ put_in_rest bytes rest at) needed left
       (λ fits all. absurd (omega arith))
       (λ lacks none. rw (lt-leb (length bytes) (min (length rest) (65536 - at)) (omega arith), is-new, none, fitted_full bytes [] (omega arith)))
       is-count
 
-  pub all-put : 1 ≤ length bytes → needed ≤ count → wrote (new ++ drop count rest) (at + needed) 0 ≡ put_in_rest bytes rest at
+  pub all_put : 1 ≤ length bytes → needed ≤ count → wrote (new ++ drop count rest) (at + needed) 0 ≡ put_in_rest bytes rest at
   unfolding all_or_none put_in_rest
-  all-put some h =
-      if-le (λ (k : ℕ). count ≡ k → wrote (new ++ drop count rest) (at + needed) 0 ≡ put_in_rest bytes rest at) needed left
+  all_put some h =
+      if_le (λ (k : ℕ). count ≡ k → wrote (new ++ drop count rest) (at + needed) 0 ≡ put_in_rest bytes rest at) needed left
       (λ fits all.
       let lent : length (take (length bytes) rest) ≡ length bytes = length-take-le (length bytes) rest (omega arith) in
       rw (
@@ -121,9 +121,9 @@ pub put_in_rest_lem : (bytes out new : List ℕ) (at : ℕ) (r : Written)
     → answered (put_mid at (length out - at) out new) at r ≡ put_at bytes out at
 unfolding put_at put_in_rest
 put_in_rest_lem bytes out new at r e =
-    let same-room : min (length (drop at out)) (65536 - at) ≡ room out at = omega (arith, length-drop at out) in
+    let same_room : min (length (drop at out)) (65536 - at) ≡ room out at = omega (arith, length-drop at out) in
     rw (rest_back out new at, answered_with_front (take at out) new at r, e, rest_is out at)
-    (put_with_front (leb (length bytes) (min (length (drop at out)) (65536 - at))) bytes out at ∙ rw same-room)
+    (put_with_front (leb (length bytes) (min (length (drop at out)) (65536 - at))) bytes out at ∙ rw same_room)
 
 pub put_past : (bytes out : List ℕ) (at : ℕ) → 1 ≤ length bytes → length out < at → wrote out at 9 ≡ put_at bytes out at
 unfolding put_at
@@ -139,8 +139,8 @@ module _ (h : Header) (out : List ℕ) (at : ℕ) (fit : Bool) (is : fit ≡ siz
   unfolding written_header
   header_refused e = rw (← is, e)
 
-  pub header-put : fit ≡ true → (x : Numbers) → x ≡ two h.nodes h.processes → (w : Wrote) → w ≡ put_at (bytes_of x) out at
+  pub header_put : fit ≡ true → (x : Numbers) → x ≡ two h.nodes h.processes → (w : Wrote) → w ≡ put_at (bytes_of x) out at
       → w ≡ written_header h out at
   unfolding written_header header_bytes
-  header-put e x is-two w is-put =
+  header_put e x is-two w is-put =
       rw (← is, e) (is-put ∙ rw (is-two, append-nil (number_bytes h.processes)))

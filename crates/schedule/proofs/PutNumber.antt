@@ -25,8 +25,8 @@ none_put found n =
     record { same_length = refl; so_far = refl; to_come_lem = refl; inside = omega (arith, number_size n); fits = omega arith }
 
 module _ (bytes found out : List ℕ) (rest at : ℕ) (here : at < length out) (p : Putting bytes found out rest at) where
-  next-byte : (b : ℕ) (more : List ℕ) → number_bytes rest ≡ b ∷ more → (get_or bytes at 0 ≡ b) × (drop (at + 1) bytes ≡ more)
-  next-byte b more e =
+  next_byte : (b : ℕ) (more : List ℕ) → number_bytes rest ≡ b ∷ more → (get_or bytes at 0 ≡ b) × (drop (at + 1) bytes ≡ more)
+  next_byte b more e =
       let split : get_or bytes at 0 ∷ drop (at + 1) bytes ≡ b ∷ more =
       rw add-one (sym (drop-cons bytes at 0 p.inside) ∙ (p.to_come_lem ∙ e)) in
       (cc, cc)
@@ -35,9 +35,9 @@ module _ (bytes found out : List ℕ) (rest at : ℕ) (here : at < length out) (
   stands b e =
       rw (p.so_far, ← e) (copy_more found bytes at (omega (arith, p.same_length)) p.inside)
 
-  pub one-put : 128 ≤ rest → rest < 4294967296 → Putting bytes found (set out at (128 + rest % 128)) (rest / 128) (at + 1)
-  one-put h small =
-      let next = next-byte (128 + rest % 128) (number_bytes (rest / 128)) (number_more rest h small) in
+  pub one_put : 128 ≤ rest → rest < 4294967296 → Putting bytes found (set out at (128 + rest % 128)) (rest / 128) (at + 1)
+  one_put h small =
+      let next = next_byte (128 + rest % 128) (number_bytes (rest / 128)) (number_more rest h small) in
       record {
         same_length = length-set out at (128 + rest % 128) ∙ p.same_length;
         so_far = stands (128 + rest % 128) next.0;
@@ -46,9 +46,9 @@ module _ (bytes found out : List ℕ) (rest at : ℕ) (here : at < length out) (
         fits = omega (arith, p.same_length);
       }
 
-  pub last-put : rest < 128 → (set out at rest ≡ fitted bytes found) × (at + 1 ≡ min (length bytes) (length found))
-  last-put h =
-      let next = next-byte rest [] (number_last rest h) in
+  pub last_put : rest < 128 → (set out at rest ≡ fitted bytes found) × (at + 1 ≡ min (length bytes) (length found))
+  last_put h =
+      let next = next_byte rest [] (number_last rest h) in
       let whole : at + 1 ≡ length bytes = omega (arith, ap length next.1, length-drop (at + 1) bytes, p.inside) in
       let fits : length bytes ≤ length found = omega (arith, p.same_length) in
       (stands rest next.0 ∙ rw (whole, take-length) (sym (fitted_whole bytes found fits)), omega arith)

@@ -81,12 +81,12 @@ unfolding written_event
 event_later e out at = put_later (event_bytes e) out at (event_some e)
 
 module _ (out : List ℕ) (at : ℕ) (x y : List ℕ) (r s : Written) where
-  pub write-header-unique : (h : Header) → answered x at r ≡ written_header h out at
+  pub write_header_unique : (h : Header) → answered x at r ≡ written_header h out at
       → answered y at s ≡ written_header h out at
       → (x ≡ y) × (r ≡ s)
-  write-header-unique h = tells_apart at (written_header h out at) (header_later h out at) x y r s
+  write_header_unique h = tells_apart at (written_header h out at) (header_later h out at) x y r s
 
-  pub write-event-unique : (e : Event) → answered x at r ≡ written_event e out at
+  pub write_event_unique : (e : Event) → answered x at r ≡ written_event e out at
       → answered y at s ≡ written_event e out at
       → (x ≡ y) × (r ≡ s)
-  write-event-unique e = tells_apart at (written_event e out at) (event_later e out at) x y r s
+  write_event_unique e = tells_apart at (written_event e out at) (event_later e out at) x y r s

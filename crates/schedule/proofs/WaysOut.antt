@@ -19,7 +19,7 @@ use Rattle.numbers.specs.declared.NumberRead.{NumberRead}
 use Rattle.numbers.specs.declared.NumberRead.TheVariants as number
 use Rattle.numbers.specs.Numbers.{got, stops, ◌then◌}
 use Rattle.numbers.specs.ReadAt.{place_in, number_at}
-use Rattle.numbers.proofs.ReadAt.{place_of_drop, got_number, refused-number}
+use Rattle.numbers.proofs.ReadAt.{place_of_drop, got_number, refused_number}
 use Rattle.schedule.specs.declared.Header.{Header}
 use Rattle.schedule.specs.declared.Cursor.{Cursor}
 use Rattle.schedule.specs.declared.HeaderRead.{HeaderRead}
@@ -39,25 +39,25 @@ sized true file h next inside = rw (place_of_drop file next inside)
 sized false file h next inside = refl
 
 module _ (file : List ℕ) (c : Cursor) where
-  pub header-too-long : 65536 < length file → header.Refused 7 ≡ header_at file c
+  pub header_too_long : 65536 < length file → header.Refused 7 ≡ header_at file c
   unfolding header_at
-  header-too-long long = rw (lt-ltb 65536 (length file) long)
+  header_too_long long = rw (lt-ltb 65536 (length file) long)
 
   module _ (short : length file ≤ 65536) (first : NumberRead) (is : first ≡ number_at file c.at) where
-    pub header-first-refused : (n : ℕ) → first ≡ number.Refused n → header.Refused n ≡ header_at file c
+    pub header_first_refused : (n : ℕ) → first ≡ number.Refused n → header.Refused n ≡ header_at file c
     unfolding header_at read_header ◌then◌
-    header-first-refused n e = rw (le-ltb 65536 (length file) short, refused-number file c.at n first is e)
+    header_first_refused n e = rw (le-ltb 65536 (length file) short, refused_number file c.at n first is e)
 
     module _ (nodes at : ℕ) (e : first ≡ number.Got nodes at) (second : NumberRead) (is' : second ≡ number_at file at) where
-      pub header-second-refused : (n : ℕ) → second ≡ number.Refused n → header.Refused n ≡ header_at file c
+      pub header_second_refused : (n : ℕ) → second ≡ number.Refused n → header.Refused n ≡ header_at file c
       unfolding header_at read_header ◌then◌
-      header-second-refused n e' =
-          rw (le-ltb 65536 (length file) short, (got_number file c.at nodes at first is e).reads, refused-number file at n second is' e')
+      header_second_refused n e' =
+          rw (le-ltb 65536 (length file) short, (got_number file c.at nodes at first is e).reads, refused_number file at n second is' e')
 
-      pub header-sized : (processes next : ℕ) → second ≡ number.Got processes next → (r : HeaderRead) → r ≡ sized_at nodes processes next
+      pub header_sized : (processes next : ℕ) → second ≡ number.Got processes next → (r : HeaderRead) → r ≡ sized_at nodes processes next
           → r ≡ header_at file c
       unfolding header_at read_header ◌then◌ sized_at
-      header-sized processes next e' r is-sized =
+      header_sized processes next e' r is-sized =
           let g = got_number file at processes next second is' e' in
           is-sized
           ∙ rw (le-ltb 65536 (length file) short, (got_number file c.at nodes at first is e).reads, g.reads)
@@ -73,77 +73,77 @@ counted false file p count next h = refl
 
 module _ (file : List ℕ) (p : Process) (at : ℕ) where
   module _ (read : NumberRead) (is : read ≡ number_at file at) where
-    pub burst-counted : (count next : ℕ) → read ≡ number.Got count next → (r : EventRead) → r ≡ burst_of p count next → r ≡ burst_at file p at
+    pub burst_counted : (count next : ℕ) → read ≡ number.Got count next → (r : EventRead) → r ≡ burst_of p count next → r ≡ burst_at file p at
     unfolding burst_of burst_at read_burst ◌then◌
-    burst-counted count next e r is-burst =
+    burst_counted count next e r is-burst =
         let g = got_number file at count next read is e in
         is-burst ∙ rw g.reads (counted (leb 1 count && leb count 255) file p count next g.inside)
 
-    pub burst-refused : (n : ℕ) → read ≡ number.Refused n → event.Refused n ≡ burst_at file p at
+    pub burst_refused : (n : ℕ) → read ≡ number.Refused n → event.Refused n ≡ burst_at file p at
     unfolding burst_at read_burst ◌then◌
-    burst-refused n e = rw (refused-number file at n read is e)
+    burst_refused n e = rw (refused_number file at n read is e)
 
     module _ (kind : ℕ) where
-      pub request-addressed : (a next : ℕ) → read ≡ number.Got a next → (x : Action) → x ≡ request_of_kind kind (address a)
+      pub request_addressed : (a next : ℕ) → read ≡ number.Got a next → (x : Action) → x ≡ request_of_kind kind (address a)
           → (after : Cursor) → after ≡ cursor_at next → event.Got (event_of p x) after ≡ request_at file kind p at
       unfolding request_at ◌then◌
-      request-addressed a next e x is-request after is-after =
+      request_addressed a next e x is-request after is-after =
           let g = got_number file at a next read is e in rw (is-request, is-after, g.reads, place_of_drop file next g.inside)
 
-      pub request-refused : (n : ℕ) → read ≡ number.Refused n → event.Refused n ≡ request_at file kind p at
+      pub request_refused : (n : ℕ) → read ≡ number.Refused n → event.Refused n ≡ request_at file kind p at
       unfolding request_at ◌then◌
-      request-refused n e = rw (refused-number file at n read is e)
+      request_refused n e = rw (refused_number file at n read is e)
 
   module _ (kind : ℕ) where
-    pub rest-request : kind ≤ 2 → (r : EventRead) → r ≡ request_at file kind p at → r ≡ rest_at file kind p at
+    pub rest_request : kind ≤ 2 → (r : EventRead) → r ≡ request_at file kind p at → r ≡ rest_at file kind p at
     unfolding request_at rest_at read_rest
-    rest-request h r e = rw (le-leb kind 2 h) e
+    rest_request h r e = rw (le-leb kind 2 h) e
 
-    pub rest-move : 2 < kind → kind ≤ 5 → at ≤ length file → (x : Action) → x ≡ move_of_kind kind → (after : Cursor) → after ≡ cursor_at at
+    pub rest_move : 2 < kind → kind ≤ 5 → at ≤ length file → (x : Action) → x ≡ move_of_kind kind → (after : Cursor) → after ≡ cursor_at at
         → event.Got (event_of p x) after ≡ rest_at file kind p at
     unfolding rest_at read_rest
-    rest-move h k inside x is after is-after =
+    rest_move h k inside x is after is-after =
         rw (is, is-after, lt-leb kind 2 h, le-leb kind 5 k, place_of_drop file at inside)
 
-    pub rest-burst : 5 < kind → (r : EventRead) → r ≡ burst_at file p at → r ≡ rest_at file kind p at
+    pub rest_burst : 5 < kind → (r : EventRead) → r ≡ burst_at file p at → r ≡ rest_at file kind p at
     unfolding burst_at rest_at read_rest
-    rest-burst h r e = rw (lt-leb kind 2 (omega arith), lt-leb kind 5 h) e
+    rest_burst h r e = rw (lt-leb kind 2 (omega arith), lt-leb kind 5 h) e
 
 -- ---- an event
 
 module _ (file : List ℕ) (at : ℕ) (first : NumberRead) (is : first ≡ number_at file at) where
-  pub kind-refused : (n : ℕ) → first ≡ number.Refused n → event.Refused n ≡ item_at file at
+  pub kind_refused : (n : ℕ) → first ≡ number.Refused n → event.Refused n ≡ item_at file at
   unfolding item_at read_item ◌then◌
-  kind-refused n e = rw (refused-number file at n first is e)
+  kind_refused n e = rw (refused_number file at n first is e)
 
   module _ (kind next : ℕ) (e : first ≡ number.Got kind next) where
-    pub kind-above : 6 < kind → event.Refused 5 ≡ item_at file at
+    pub kind_above : 6 < kind → event.Refused 5 ≡ item_at file at
     unfolding item_at read_item ◌then◌
-    kind-above h = rw ((got_number file at kind next first is e).reads, lt-ltb 6 kind h)
+    kind_above h = rw ((got_number file at kind next first is e).reads, lt-ltb 6 kind h)
 
     module _ (below : kind ≤ 6) (second : NumberRead) (is' : second ≡ number_at file next) where
-      pub process-refused : (n : ℕ) → second ≡ number.Refused n → event.Refused n ≡ item_at file at
+      pub process_refused : (n : ℕ) → second ≡ number.Refused n → event.Refused n ≡ item_at file at
       unfolding item_at read_item ◌then◌
-      process-refused n e' =
-          rw ((got_number file at kind next first is e).reads, le-ltb 6 kind below, refused-number file next n second is' e')
+      process_refused n e' =
+          rw ((got_number file at kind next first is e).reads, le-ltb 6 kind below, refused_number file next n second is' e')
 
-      pub process-read : (p after : ℕ) → second ≡ number.Got p after → (r : EventRead) → r ≡ rest_at file kind (process p) after
+      pub process_read : (p after : ℕ) → second ≡ number.Got p after → (r : EventRead) → r ≡ rest_at file kind (process p) after
           → r ≡ item_at file at
       unfolding item_at read_item rest_at ◌then◌
-      process-read p after e' r is-rest =
+      process_read p after e' r is-rest =
           rw ((got_number file at kind next first is e).reads, le-ltb 6 kind below, (got_number file next p after second is' e').reads) is-rest
 
 module _ (file : List ℕ) (c : Cursor) where
-  pub burst-goes-on : 0 < c.left → (e : Event) → e ≡ event_of c.process Step
+  pub burst_goes_on : 0 < c.left → (e : Event) → e ≡ event_of c.process Step
       → event.Got e (cursor_in c.at c.process (c.left - 1)) ≡ event_at file c
   unfolding event_at
-  burst-goes-on h e is = rw (is, lt-ltb 0 c.left h)
+  burst_goes_on h e is = rw (is, lt-ltb 0 c.left h)
 
   module _ (none : c.left ≤ 0) where
-    pub file-ends : length file ≤ c.at → event.End ≡ event_at file c
+    pub file_ends : length file ≤ c.at → event.End ≡ event_at file c
     unfolding event_at next_item
-    file-ends h = rw (le-ltb 0 c.left none, drop_of_length-le file h)
+    file_ends h = rw (le-ltb 0 c.left none, drop_of_length-le file h)
 
-    pub item-stands : c.at < length file → (r : EventRead) → r ≡ item_at file c.at → r ≡ event_at file c
+    pub item_stands : c.at < length file → (r : EventRead) → r ≡ item_at file c.at → r ≡ event_at file c
     unfolding event_at next_item item_at
-    item-stands h r e = rw (le-ltb 0 c.left none, drop-cons file c.at 0 h) (rw (drop-cons file c.at 0 h) at e)
+    item_stands h r e = rw (le-ltb 0 c.left none, drop-cons file c.at 0 h) (rw (drop-cons file c.at 0 h) at e)

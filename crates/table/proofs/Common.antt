@@ -31,7 +31,7 @@ pub use Rattle.table.specs.Words.{Memory, link_word, target_of, is_marked, in_us
 pub use Rattle.table.specs.Words.{next_node, none_left}
 unfoldable pub use Rattle.table.specs.Words.{address_at, link_at, deleter_at, rank, written, given_out}
 pub use Rattle.table.specs.Places.{Place, p0, p1, p2, p3, p4, p5, p6, p7, p8, p9, p10, p11, p12, p13, p14, p15, p16, p17, p18, p19, off, Next}
-unfoldable pub use Rattle.table.specs.Places.{place_of, row, searchEnds}
+unfoldable pub use Rattle.table.specs.Places.{place_of, row, search_ends}
 pub use Rattle.table.specs.Steps.{access_of, record_after}
 unfoldable pub use Rattle.table.specs.Steps.{word_met, turn_in, in_range}
 pub use Rattle.table.specs.Events.{Left, leaving, status_needed, State, state_of, Leaves, leaves_in}

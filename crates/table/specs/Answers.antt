@@ -49,7 +49,7 @@ module _ (σ₀ : State) (e : ℕ → Event) (r t : ℕ) (p : Process) (a : Addr
     pub node : Node
     pub held : HeldBy (at σ₀ e (suc event)).memory a node
     pub own : (record_in (at σ₀ e event) p).kept.node ≡ node
-    pub still-own : (record_in (at σ₀ e t) p).kept.node ≡ node
+    pub still_own : (record_in (at σ₀ e t) p).kept.node ≡ node
 
   -- an event, p's own or another's, took a out: it was held by the node that is in p's record when p is answered, and then by nobody
   pub record CeasedToBeHeld : Type 0 where

@@ -131,9 +131,9 @@ module _ (σ₀ : State) (e : ℕ → Event) where
     -- a release of n is answered true, requested before the mark and answered after it
     released : (r' : ℕ) → ReleasedAround T t n r' → Fate T t n r
     -- n has a deleter, and its release of n, requested before the mark, is current
-    deleter-current : (p : Process) → deleter_at (at T).memory n ≡ deleter_word p → (r' : ℕ) → r' < t → CurrentRelease T n p r' → Fate T t n r
+    deleter_current : (p : Process) → deleter_at (at T).memory n ≡ deleter_word p → (r' : ℕ) → r' < t → CurrentRelease T n p r' → Fate T t n r
     -- n has no deleter, and the operation that marked it is current, a release of n
-    marker-current : deleter_at (at T).memory n ≡ no_deleter → CurrentRelease T n (e t).process r → Fate T t n r
+    marker_current : deleter_at (at T).memory n ≡ no_deleter → CurrentRelease T n (e t).process r → Fate T t n r
 
   -- event t marked n: it belonged to a release of n, current then
   pub record Strike (T t : ℕ) (n : Node) : Type 0 where
@@ -144,7 +144,7 @@ module _ (σ₀ : State) (e : ℕ → Event) where
   -- At most one event marks n. Every release of n that is answered true has such an event between its request and its answer, and at most one release
   -- has it there. Of every event that marks n it is known what has become of n.
   pub record StruckOnce (T : ℕ) (n : Node) : Type 0 where
-    pub marked-once : (t t' : ℕ) → t < T → t' < T → Marks t n → Marks t' n → t ≡ t'
+    pub marked_once : (t t' : ℕ) → t < T → t' < T → Marks t n → Marks t' n → t ≡ t'
     pub around : (r : ℕ) → ReleasedBy T n r → (t : ℕ) × (t < T) × Marks t n × ReleasedAround T t n r
     pub once : (t r r' : ℕ) → ReleasedAround T t n r → ReleasedAround T t n r' → r ≡ r'
     pub struck : (t : ℕ) → t < T → Marks t n → Strike T t n

@@ -52,8 +52,8 @@ place_of n =
 
 module _ (addresses : List ℕ) where
   -- "End of search."
-  unfoldable pub searchEnds : Record → Next
-  searchEnds r =
+  unfoldable pub search_ends : Record → Next
+  search_ends r =
       cond r.lost.recovering
       (uses_own (cond (eqb (node_of r curr).0 (node_of r own).0) (r ▸ 18 with true_answer) (r ▸ to 14)))
       (cond (eqb r.kept.kind insert_kind)
@@ -66,7 +66,7 @@ module _ (addresses : List ℕ) where
       cond mark (goes (r ▸ succ≔ target ▸ to 2))
       (cond (below addresses (node_of r curr) r.kept.address)
       (goes (r ▸ succ≔ target ▸ pred≔ (node_of r curr) ▸ curr≔ target ▸ to 1))
-      (searchEnds (r ▸ succ≔ target)))
+      (search_ends (r ▸ succ≔ target)))
   row p2 r = swap_link pred (unmarked curr) (unmarked succ)
       (r ▸ curr≔ (node_of r succ) ▸ to 1)
       (r ▸ to 0)

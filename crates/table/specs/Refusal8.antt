@@ -58,21 +58,21 @@ module _ (m : Memory) (r : Record) where
   -- the fields used: those of the row, "and at the end of a recovering search" own
   pub data UsesField : Field → Type 0 where
     by_row : {f : Field} → Memᴰ f (tests_of r).fields → UsesField f
-    at-the-end : RecoveringSearchEnds → UsesField own
+    at_the_end : RecoveringSearchEnds → UsesField own
 
   -- why a step is refused with 8
   pub data Broken : Type 0 where
     -- "place above 19, kind above 2, pending answer or result out of its range"
-    place-above-19 : 19 < r.lost.place → Broken
-    kind-above-2 : 2 < r.kept.kind → Broken
-    pending-above-3 : 3 < r.lost.pending → Broken
-    result-above-2 : 2 < r.kept.result → Broken
+    place_above_19 : 19 < r.lost.place → Broken
+    kind_above_2 : 2 < r.kept.kind → Broken
+    pending_above_3 : 3 < r.lost.pending → Broken
+    result_above_2 : 2 < r.kept.result → Broken
     -- "pending none or fail at 18 or none at 19, or kind find at places 0 to 2"
-    none-at-18 : r.lost.place ≡ 18 → r.lost.pending ≡ no_answer → Broken
-    fail-at-18 : r.lost.place ≡ 18 → r.lost.pending ≡ fail_answer → Broken
-    none-at-19 : r.lost.place ≡ 19 → r.lost.pending ≡ no_answer → Broken
-    find-at-0-to-2 : r.lost.place ≤ 2 → r.kept.kind ≡ find_kind → Broken
+    none_at_18 : r.lost.place ≡ 18 → r.lost.pending ≡ no_answer → Broken
+    fail_at_18 : r.lost.place ≡ 18 → r.lost.pending ≡ fail_answer → Broken
+    none_at_19 : r.lost.place ≡ 19 → r.lost.pending ≡ no_answer → Broken
+    find_at_0_to_2 : r.lost.place ≤ 2 → r.kept.kind ≡ find_kind → Broken
     -- "a node field used by the row, or the target of a link read by the row, is not below the count; or a row using own finds none"
-    field-not-in-use : (f : Field) → UsesField f → in_use m (node_of r f) ≡ false → Broken
-    target-not-in-use : (f : Field) → (tests_of r).reads ≡ some f → in_use m (follows m (node_of r f)) ≡ false → Broken
-    own-is-none : UsesField own → r.kept.node ≡ no_node → Broken
+    field_not_in_use : (f : Field) → UsesField f → in_use m (node_of r f) ≡ false → Broken
+    target_not_in_use : (f : Field) → (tests_of r).reads ≡ some f → in_use m (follows m (node_of r f)) ≡ false → Broken
+    own_is_none : UsesField own → r.kept.node ≡ no_node → Broken

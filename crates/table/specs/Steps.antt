@@ -87,18 +87,18 @@ module _ (used : Node → Bool) where
         | own ↦ not (eqb r.kept.node.0 no_node.0) && used r.kept.node
       ]
 
-  abbrev pub allUsable : Record → List Field → Bool
-  allUsable r [] = true
-  allUsable r (f ∷ fs) = usable r f && allUsable r fs
+  abbrev pub all_usable : Record → List Field → Bool
+  all_usable r [] = true
+  all_usable r (f ∷ fs) = usable r f && all_usable r fs
 
   -- "or the target of a link read by the row, is not below the count"
-  abbrev pub allUsed : List Node → Bool
-  allUsed [] = true
-  allUsed (n ∷ ns) = used n && allUsed ns
+  abbrev pub all_used : List Node → Bool
+  all_used [] = true
+  all_used (n ∷ ns) = used n && all_used ns
 
   -- "and at the end of a recovering search"
-  abbrev pub ownUsable : Record → Next → Bool
-  ownUsable r x = elim x [ goes s ↦ true | uses_own s ↦ usable r own ]
+  abbrev pub own_usable : Record → Next → Bool
+  own_usable r x = elim x [ goes s ↦ true | uses_own s ↦ usable r own ]
 
 abbrev pub record_after : Next → Record
 record_after x = elim x [ goes s ↦ s | uses_own s ↦ s ]
@@ -116,7 +116,7 @@ pub record Turn : Type 0 where
 abbrev pub turn : (used : Node → Bool) (w : ℕ) → Access → Record → Turn
 turn used w a r =
     record {
-      fits = in_range r && (allUsable used r a.uses && allUsed used (a.leads w) && ownUsable used r (a.next w));
+      fits = in_range r && (all_usable used r a.uses && all_used used (a.leads w) && own_usable used r (a.next w));
       writes = a.writes w;
       after = record_after (a.next w);
       says = a.says;

@@ -69,12 +69,12 @@ module _ (P : ℕ → Type 0) (one : (n : ℕ) → n < 10 → P n) (more : (n : 
   by_size n s tenth true e = one n (ltb-true n 10 e)
   by_size n s tenth false e = more n (ltb-false n 10 e) s tenth
 
-  by-turns : (k n : ℕ) → n < power k → n < 4294967296 → P n
-  by-turns zero n h s = one n h
-  by-turns (suc k) n h s = by_size n s (by-turns k (n / 10) (omega arith) (omega arith)) (ltb n 10) refl
+  by_turns : (k n : ℕ) → n < power k → n < 4294967296 → P n
+  by_turns zero n h s = one n h
+  by_turns (suc k) n h s = by_size n s (by_turns k (n / 10) (omega arith) (omega arith)) (ltb n 10) refl
 
   by_digits : (n : ℕ) → n < 4294967296 → P n
-  by_digits n s = by-turns 9 n (omega arith) s
+  by_digits n s = by_turns 9 n (omega arith) s
 
 pub decimal_is_last : (n : ℕ) → n < 4294967296 → decimal n ≡ last_digits (length (decimal n)) n
 decimal_is_last = by_digits (λ (n : ℕ). decimal n ≡ last_digits (length (decimal n)) n) last_one last_more
@@ -114,18 +114,18 @@ lifted (suc j) k n =
 
 -- a number of at most eight digits made one of eight
 module _ (k n m : ℕ) (s : n < 4294967296) (c : k ≡ length (decimal n)) (h : k ≤ 8) (e : m ≡ tens (8 - k)) where
-  eight-in-all : 8 - k + k ≡ 8
-  eight-in-all = omega arith
+  eight_in_all : 8 - k + k ≡ 8
+  eight_in_all = omega arith
 
   pub eight_fits : n * m < 100000000
   unfolding tens
-  eight_fits = rw e (rw eight-in-all at (lifted_below (8 - k) k n (rw c (decimal_below n s))))
+  eight_fits = rw e (rw eight_in_all at (lifted_below (8 - k) k n (rw c (decimal_below n s))))
 
-  pub eight-fits-32 : Fits w32 (n * m)
-  eight-fits-32 = record { fits = omega (arith, eight_fits) }
+  pub eight_fits_32 : Fits w32 (n * m)
+  eight_fits_32 = record { fits = omega (arith, eight_fits) }
 
-  pub eight-begins : take k (last_digits 8 (n * m)) ≡ decimal n
-  eight-begins = rw (e, decimal_is_last n s, ← c) (rw eight-in-all at (lifted (8 - k) k n))
+  pub eight_begins : take k (last_digits 8 (n * m)) ≡ decimal n
+  eight_begins = rw (e, decimal_is_last n s, ← c) (rw eight_in_all at (lifted (8 - k) k n))
 
 length_cond : (b : Bool) (x y : List ℕ) (least most : ℕ) → (least ≤ length x) × (length x ≤ most) → (least ≤ length y) × (length y ≤ most)
     → (least ≤ length (cond b x y)) × (length (cond b x y) ≤ most)

@@ -32,18 +32,18 @@ abbrev hundredth : (first second : ℕ) → ℕ
 hundredth first second = fours first second * 10486 / 1048576
 
 module _ {first second : ℕ} (q : Halves first second) where
-  hundredth-is : hundredth first second ≡ first / 100 + 42950656 * second
-  hundredth-is = omega arith
+  hundredth_is : hundredth first second ≡ first / 100 + 42950656 * second
+  hundredth_is = omega arith
 
-  pub first-hundreds : hundredth first second % 128 ≡ first / 100
-  first-hundreds = rw hundredth-is (omega arith)
+  pub first_hundreds : hundredth first second % 128 ≡ first / 100
+  first_hundreds = rw hundredth_is (omega arith)
 
-  pub second-hundreds : hundredth first second / 4294967296 ≡ second / 100
-  second-hundreds = rw hundredth-is (omega arith)
+  pub second_hundreds : hundredth first second / 4294967296 ≡ second / 100
+  second_hundreds = rw hundredth_is (omega arith)
 
-  pub pairs-left : fours first second * 65536
+  pub pairs_left : fours first second * 65536
       ≡ (first / 100 + second / 100 * 4294967296) * 6553599 + lanes (first / 100) (first % 100) (second / 100) (second % 100)
-  pairs-left = omega arith
+  pairs_left = omega arith
 
 -- the pairs of eight digits, by their halves
 pub pairs_of_lem : (n : ℕ) → lanes (n / 10000 / 100) (n / 10000 % 100) (n % 10000 / 100) (n % 10000 % 100) ≡ pairs_of n
@@ -80,9 +80,9 @@ abbrev pair_text : ℕ → ℕ
 pair_text x = (48 + x / 10) + 256 * (48 + x % 10)
 
 module _ {a b c d p : ℕ} (q : Paired a b c d p) where
-  pub tens-are : tenth p % 16 + tenth p / 65536 % 16 * 65536 + tenth p / 4294967296 % 16 * 4294967296
+  pub tens_are : tenth p % 16 + tenth p / 65536 % 16 * 65536 + tenth p / 4294967296 % 16 * 4294967296
       + tenth p / 281474976710656 * 281474976710656 ≡ lanes (a / 10) (b / 10) (c / 10) (d / 10)
-  tens-are =
+  tens_are =
       let first : tenth p ≡ a / 10 + 6592 * (b + 65536 * (c + 65536 * d)) = omega arith in
       let second : tenth p / 65536 ≡ b / 10 + 6592 * (c + 65536 * d) = rw first (lane_above a b _ q.first q.second) in
       let third : tenth p / 4294967296 ≡ c / 10 + 6592 * d =
@@ -90,16 +90,16 @@ module _ {a b c d p : ℕ} (q : Paired a b c d p) where
       let fourth : tenth p / 281474976710656 ≡ d / 10 = rw (← div-div-eq-div-mul (tenth p) 4294967296 65536, third) (omega arith) in
       rw (fourth, third, second, first, lane_alone a _ q.first, lane_alone b _ q.second, lane_alone c _ q.third) (omega arith)
 
-  pub pairs-few : p < 100 * 281474976710656
-  pairs-few = omega arith
+  pub pairs_few : p < 100 * 281474976710656
+  pairs_few = omega arith
 
-  pub tens-few : lanes (a / 10) (b / 10) (c / 10) (d / 10) < 10 * 281474976710656
-  tens-few = omega arith
+  pub tens_few : lanes (a / 10) (b / 10) (c / 10) (d / 10) < 10 * 281474976710656
+  tens_few = omega arith
 
   -- with `0` added in each byte and the tens taken out, the text of the pairs is left
-  text-left : p * 256 + 3472328296227680304
+  text_left : p * 256 + 3472328296227680304
       ≡ lanes (a / 10) (b / 10) (c / 10) (d / 10) * 2559 + lanes (pair_text a) (pair_text b) (pair_text c) (pair_text d)
-  text-left = omega arith
+  text_left = omega arith
 
 -- ---- eight digits
 
@@ -120,7 +120,7 @@ spelt_pairs n s =
 -- and so that of the digits
 pub digits_left : (n p : ℕ) → n < 100000000 → p ≡ pairs_of n → p * 256 + 3472328296227680304
     ≡ lanes (n / 1000000 / 10) (n / 10000 % 100 / 10) (n / 100 % 100 / 10) (n % 100 / 10) * 2559 + word (last_digits 8 n)
-digits_left n p s e = rw (spelt_pairs n s) (text-left (paired n p s e))
+digits_left n p s e = rw (spelt_pairs n s) (text_left (paired n p s e))
 
 -- ---- the bytes of a word
 

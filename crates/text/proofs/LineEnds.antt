@@ -31,27 +31,27 @@ ended_by word = space ∷ word ++ (newline ∷ [])
 
 -- by an answer's number
 module _ (answer : ℕ) (part : List ℕ) (x : Put) where
-  pub ended-false : answer ≡ false_answer → x ≡ puts (ended_by false_word) part → x ≡ puts (line_end (Answered answer)) part
+  pub ended_false : answer ≡ false_answer → x ≡ puts (ended_by false_word) part → x ≡ puts (line_end (Answered answer)) part
   unfolding outcome_text
-  ended-false is = puts_same ended_by false_word (outcome_text (Answered answer)) part x (rw (eq-eqb answer false_answer is))
+  ended_false is = puts_same ended_by false_word (outcome_text (Answered answer)) part x (rw (eq-eqb answer false_answer is))
 
-  pub ended-true : answer ≢ false_answer → answer ≡ true_answer → x ≡ puts (ended_by true_word) part
+  pub ended_true : answer ≢ false_answer → answer ≡ true_answer → x ≡ puts (ended_by true_word) part
       → x ≡ puts (line_end (Answered answer)) part
   unfolding outcome_text
-  ended-true not-false is =
-      puts_same ended_by true_word (outcome_text (Answered answer)) part x (rw (ne_eqb answer false_answer not-false, eq-eqb answer true_answer is))
+  ended_true not_false is =
+      puts_same ended_by true_word (outcome_text (Answered answer)) part x (rw (ne_eqb answer false_answer not_false, eq-eqb answer true_answer is))
 
-  pub ended-fail : answer ≢ false_answer → answer ≢ true_answer → x ≡ puts (ended_by fail_word) part
+  pub ended_fail : answer ≢ false_answer → answer ≢ true_answer → x ≡ puts (ended_by fail_word) part
       → x ≡ puts (line_end (Answered answer)) part
   unfolding outcome_text
-  ended-fail not-false not-true =
-      puts_same ended_by fail_word (outcome_text (Answered answer)) part x (rw (ne_eqb answer false_answer not-false, ne_eqb answer true_answer not-true))
+  ended_fail not_false not-true =
+      puts_same ended_by fail_word (outcome_text (Answered answer)) part x (rw (ne_eqb answer false_answer not_false, ne_eqb answer true_answer not-true))
 
 -- ---- the outcome's text, without the space before it and the end of the line
 
 module _ (o : Outcome) (found ended : List ℕ) (k : ℕ) (e : put ended k ≡ puts (line_end o) found) where
-  text-within : take (k - 1 - 1) (drop 1 ended) ≡ outcome_text o
-  text-within =
+  text_within : take (k - 1 - 1) (drop 1 ended) ≡ outcome_text o
+  text_within =
       let text = outcome_text o in
       let rest = drop (length (line_end o)) found in
       let is : ended ≡ line_end o ++ rest = λ i. (e i).part in
@@ -59,8 +59,8 @@ module _ (o : Outcome) (found ended : List ℕ) (k : ℕ) (e : put ended k ≡ p
       let long : k - 1 - 1 ≡ length text = omega (arith, length-append text (newline ∷ [])) in
       rw (is, append_assoc text (newline ∷ []) rest) (take_at text ((newline ∷ []) ++ rest) (k - 1 - 1) (sym long))
 
-  pub text-put : (part : List ℕ) (x : Put) → x ≡ puts (take (k - 1 - 1) (drop 1 ended)) part → x ≡ puts (outcome_text o) part
-  text-put part x = rw text-within (λ f. f)
+  pub text_put : (part : List ℕ) (x : Put) → x ≡ puts (take (k - 1 - 1) (drop 1 ended)) part → x ≡ puts (outcome_text o) part
+  text_put part x = rw text_within (λ f. f)
 
 pub text_few : (ended : List ℕ) (k r : ℕ) → r ≡ length (take (k - 1 - 1) (drop 1 ended)) → k ≤ 20 → r ≤ 18
 text_few ended k r h few = omega (arith, length-take (k - 1 - 1) (drop 1 ended))

@@ -41,13 +41,13 @@ module _ {M : Type 1} {𝓤 : Ura M} (𝓛 : Logic 𝓤) (T : Ended) (c : Clause
         {Λ : Loops 𝓤 H} {f : Name} {xs : List Opd} {d : Place} {rest : Body} {q : Post 𝓤 H} where
       -- Δ shows what the callee asks. What its clause says of the answer r and of the last values ws is read as the fact `Says r ws`; the answer
       -- lands as its machine value
-      pub calls-met : ent 𝓤 (⋆ 𝓛 Δ) (Met.pre y) → Tells R (Is R) (λ r. val r ∷ [])
+      pub calls_met : ent 𝓤 (⋆ 𝓛 Δ) (Met.pre y) → Tells R (Is R) (λ r. val r ∷ [])
           → ((r : R.Denot) (ws : Last) → ent 𝓤 (Ensured r ws) (fact 𝓤 (Says r ws)))
           → FmC 𝓤 H 𝓛.laws C → Triple 𝓤 (C f) Met → Opds Go 𝓛 (raw (Met.pre y) ∷ Γ) E xs (Met.args y)
           → ((r : R.Denot) (ws : Last) → Says r ws → Is R r (val r ∷ [])
           → Sq 𝓛 (‵ (lasts T y.0.0 y.0.3 ws) ∷ Alive ∷ Γ) (lands C Λ E d (val r) rest q))
           → Sq 𝓛 (Δ ++ Γ) (runs C Λ E (seq (call f xs d) rest) q)
-      calls-met asks tells says fm known os k =
+      calls_met asks tells says fm known os k =
           cut Δ (raw (Met.pre y) ∷ []) Γ asks $ calls_at ! fm Met known y os (λ v.
           use1 𝓛 (later (some (λ (r : R.Denot). (raw (toks 𝓤 A T.signature.lifetimes y.0.0 y.0.1) ⊛ ‵ (R.own r (v ∷ [])))
           ⊛ raw (ensured 𝓛 T c y.0.0 y.0.3 y.1 r)))) (id⊢ 𝓤 _) $ await ! tt $ pick ! (λ r. split ! $ split ! $

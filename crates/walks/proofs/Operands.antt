@@ -40,11 +40,11 @@ module _ {M : Type 1} {𝓤 : Ura M} {𝓛 : Logic 𝓤} {K : Type 0} {Γ : List
     field_of t n k e s f = load t (found t k s f (stop t)) (read t n k e f)
 
     -- the pointer of a slice, lent on
-    pointer-of : K → (n : ℕ) {i : ℕ} {q : Share} {ρ : Ty} {b : ℕ} {p : ℕ × ℕ} {len : ℕ} {τ : Ty}
+    pointer_of : K → (n : ℕ) {i : ℕ} {q : Share} {ρ : Ty} {b : ℕ} {p : ℕ × ℕ} {len : ℕ} {τ : Ty}
         → nth 𝓛 n Γ ≡ ‵ (fat q (slice_ty ρ) b zero (slice_val p len)) → spot_of 𝓤 H E i ≡ (slice_ty ρ, b, zero)
         → field_at zero (tcons ρ (tcons (ty_int w64) tnil)) 0 ≡ some (ρ, 0)
         → Rv K 𝓛 Γ E (addr_of (place i (field 0 ∷ deref τ ∷ []))) (vptr p.0 p.1)
-    pointer-of t n e s f = addr t (found t 0 s f (hop t (read t n 0 e f) (stop t)))
+    pointer_of t n e s f = addr t (found t 0 s f (hop t (read t n 0 e f) (stop t)))
 
     -- the slice made of such a pointer and of the slice's length
     slice_of : K → (m n : ℕ) {j i : ℕ} {q₁ q₂ : Share} {ρ : Ty} {b : ℕ} {p : ℕ × ℕ} {len d : ℕ}
@@ -62,7 +62,7 @@ local_holds 𝓤 H E i v = ‵ (fat full_share (spot_of 𝓤 H E i).0 (spot_of �
 module _ {M : Type 1} {𝓤 : Ura M} {𝓛 : Logic 𝓤} {K : Type 0} {Γ : List (Item 𝓤)} {E : Env 𝓤 𝓛.H} where
   open 𝓛 use {H}
 
-  pub lends-on : K → (n m l : ℕ) {i j k : ℕ} {ρ τ : Ty} {b : ℕ} {p : ℕ × ℕ} {len d : ℕ} {C : Calls 𝓤 H} {Λ : Loops 𝓤 H} {rest : Body} {q : Post 𝓤 H}
+  pub lends_on : K → (n m l : ℕ) {i j k : ℕ} {ρ τ : Ty} {b : ℕ} {p : ℕ × ℕ} {len d : ℕ} {C : Calls 𝓤 H} {Λ : Loops 𝓤 H} {rest : Body} {q : Post 𝓤 H}
       → len < 2 ^ 64 → spot_of 𝓤 H E i ≡ (slice_ty ρ, b, zero)
       → field_at zero (tcons ρ (tcons (ty_int w64) tnil)) 0 ≡ some (ρ, 0) → field_at zero (tcons ρ (tcons (ty_int w64) tnil)) 1 ≡ some (ty_int w64, d)
       → nth 𝓛 n Γ ≡ ‵ (fat full_share (slice_ty ρ) b zero (slice_val p len))
@@ -76,6 +76,6 @@ module _ {M : Type 1} {𝓤 : Ura M} {𝓛 : Logic 𝓤} {K : Type 0} {Γ : List
       (runs C Λ E rest q) Γ
       (runs C Λ E (seq (assign (place j []) (addr_of (place i (field 0 ∷ deref τ ∷ [])))) (seq (assign (place k []) (aggregate (copy (place j [])
       ∷ copy (place i (field 1 ∷ [])) ∷ []))) rest)) q)
-  lends-on t n m l fits s f g has bare ptr made still room slice = step (λ k.
-      assigns t (pointer-of t n has s f) (at_local t) (init t m bare (ptr, tt)) $
+  lends_on t n m l fits s f g has bare ptr made still room slice = step (λ k.
+      assigns t (pointer_of t n has s f) (at_local t) (init t m bare (ptr, tt)) $
       assigns t (slice_of t m n made still s g) (at_local t) (init t l room (slice, (tt, (record { fits = fits }, tt)))) $ k)

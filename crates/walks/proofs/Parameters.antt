@@ -54,8 +54,8 @@ module _ {n : ℕ} where
     }
 
     -- `&'j mut [T]`, passed on for good
-    abbrev pub slice-passed-on : Parameter (mut_slice_of (j ∷ []) ok s) yes
-    slice-passed-on = record {
+    abbrev pub slice_passed_on : Parameter (mut_slice_of (j ∷ []) ok s) yes
+    slice_passed_on = record {
       stay = gave_slice (j ∷ []) ok s;
       goes = λ 𝓛. Goes-gave_slice 𝓛 n j ok s;
       vals = λ _. mut_slice_vals;
@@ -140,13 +140,13 @@ module _ (T : Ended) (ps : Parameters T.signature.params T.kept) where
           enter ! 𝓣.C 𝓣.Λ f _ _ $ allocates ! f.locals walk
 
     -- the function meets its contract, which requires what is told
-    pub meets-by-walk : (f : Fn) (𝓣 : Tables 𝓤 H) (Required : (κs : Lfts S.lifetimes) → Args S κs → Type 0)
+    pub meets_by_walk : (f : Fn) (𝓣 : Tables 𝓤 H) (Required : (κs : Lfts S.lifetimes) → Args S κs → Type 0)
         → ((κs : Lfts S.lifetimes) (a : Args S κs) (g : (c κs a).ghost) → ent 𝓤 ((c κs a).requires g) (fact 𝓤 (Required κs a)))
         → ((κs : Lfts S.lifetimes) (qs : Shares S.lifetimes)
         (bounds : AllOutlive S.lifetimes S.outlives κs) (a : Args S κs) (g : (c κs a).ghost)
         → Told κs a → Required κs a → Walk κs qs bounds a g f 𝓣)
         → Meets 𝓛 S (WpFn 𝓤 H 𝓣.C 𝓣.Λ f) (closing 𝓛 T c)
-    meets-by-walk f 𝓣 Required requires walk =
+    meets_by_walk f 𝓣 Required requires walk =
         walk_Meets 𝓛 T stays (going S.params T.kept ps 𝓛) c
         (WpFn 𝓤 H 𝓣.C 𝓣.Λ f) (WpFn-mono 𝓤 H 𝓛.laws 𝓣 f)
         (walked 𝓛 T stays c (WpFn 𝓤 H 𝓣.C 𝓣.Λ f) (spelt S.params T.kept ps)
@@ -159,16 +159,16 @@ module _ (T : Ended) (ps : Parameters T.signature.params T.kept) where
 
 module _ {M : Type 1} (𝓤 : Ura M) (H : Heap 𝓤) (𝓜 : Model 𝓤 H) (𝓡 : running_status 𝓤 H 𝓜) (γ : Env) where
   -- the tables over which a function's MIR runs, by what its names stand for
-  abbrev pub tables-over : Tables 𝓤 H
-  tables-over = tables_of 𝓤 H 𝓜 (tables 𝓤 H 𝓜 𝓡 γ)
+  abbrev pub tables_over : Tables 𝓤 H
+  tables_over = tables_of 𝓤 H 𝓜 (tables 𝓤 H 𝓜 𝓡 γ)
 
   -- a callee's routine meets a contract: so does the entry that stands for it
-  pub cites : (c : Contract 𝓤) (k : Name) (r : Routine) → γ k ≡ r → Triple 𝓤 (𝓡.run r) c → Triple 𝓤 (tables-over.C k) c
+  pub cites : (c : Contract 𝓤) (k : Name) (r : Routine) → γ k ≡ r → Triple 𝓤 (𝓡.run r) c → Triple 𝓤 (tables_over.C k) c
   unfolding tables_of
   cites c = cited 𝓤 H c 𝓜 𝓡 γ
 
   -- a function's MIR meets a contract: so does the entry that stands for it
   pub enters : (c : Contract 𝓤) (k : Name) (f : Fn) → Closed 𝓤 H (tables 𝓤 H 𝓜 𝓡 γ).C (tables 𝓤 H 𝓜 𝓡 γ).Λ k f
-      → Triple 𝓤 (WpFn 𝓤 H tables-over.C tables-over.Λ f) c → Triple 𝓤 (𝓡.run (γ k)) c
+      → Triple 𝓤 (WpFn 𝓤 H tables_over.C tables_over.Λ f) c → Triple 𝓤 (𝓡.run (γ k)) c
   unfolding tables_of
   enters c = entered 𝓤 H c (tables 𝓤 H 𝓜 𝓡 γ).C (tables 𝓤 H 𝓜 𝓡 γ).Λ

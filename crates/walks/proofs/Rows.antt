@@ -33,17 +33,17 @@ module _ {M : Type 1} {𝓤 : Ura M} {𝓛 : Logic 𝓤} {K : Type 0} {Γ : List
       (‵ ((MutSlice ℓ κ R).own_val x vs) ∷ ‵ (flft κ q) ∷ Γ) G
   row_opened t soaks ℓ x = step (λ s. fsplit t $ drop t $ fsplit t $ opens_slice t soaks R x.now x.ref_ptr.0 x.ref_ptr.1 $ s)
 
-  pub row-closed : K → Soaks G → (ℓ : Lifetime) {κ : Lft} {q : Share} {γ : GName} (ys zs : List Record) (b o : ℕ) → Room R (length ys)
+  pub row_closed : K → Soaks G → (ℓ : Lifetime) {κ : Lft} {q : Share} {γ : GName} (ys zs : List Record) (b o : ℕ) → Room R (length ys)
       → length zs ≡ length ys
       → Step K 𝓛 (‵ ((MutSlice ℓ κ R).own_val (record { ref_ptr = (b, o); ghost_name = γ; now = zs }) (slice_val (b, o) (length ys) ∷ [])) ∷ ‵ (flft κ q) ∷ Γ) G
       (‵ (row R full_share zs b o) ∷ ‵ (fobor κ q (Held R (length ys) b o γ)) ∷ ‵ (fobs γ ((coded_holeys R).code (heres R ys)))
       ∷ ‵ (fauth γ ((coded_holeys R).code (heres R ys))) ∷ Γ) G
-  row-closed t soaks ℓ {γ = γ} ys zs b o room e = step (λ s. closes_slice t soaks R ys zs e b o $ fjoin t $
+  row_closed t soaks ℓ {γ = γ} ys zs b o room e = step (λ s. closes_slice t soaks R ys zs e b o $ fjoin t $
       pure_i t (mut_slice_at R (record { ref_ptr = (b, o); ghost_name = γ; now = zs }) (slice_val (b, o) (length ys) ∷ [])) (tt, (tt, tt))
       (ap (λ (m : ℕ). slice_val (b, o) m ∷ []) (sym e), subst (Room R) (sym e) room) $ fjoin t $ s)
 
-  pub given-up : K → (ℓ : Lifetime) (κ : Lft) (T : RattleType) (x : MutBor (List T.Denot)) (vs : List Val)
+  pub given_up : K → (ℓ : Lifetime) (κ : Lft) (T : RattleType) (x : MutBor (List T.Denot)) (vs : List Val)
       → Step K 𝓛 (‵ (finally T x.ghost_name x.now) ∷ Γ) G (‵ ((MutSlice ℓ κ T).own_val x vs) ∷ Γ) G
-  given-up t ℓ κ T x vs = step (λ s. fsplit t $ drop t $ fsplit t $
+  given_up t ℓ κ T x vs = step (λ s. fsplit t $ drop t $ fsplit t $
       use1 𝓛 (‵ (fres x.ghost_name ((coded_holeys T).code (heres T x.now)))) (𝓛.names.obs-res x.ghost_name ((coded_holeys T).code (heres T x.now))) $
       use1 𝓛 (‵ (finally T x.ghost_name x.now)) (res-finally 𝓛 ℓ κ T x.ghost_name x.now) $ move t (1 ∷ []) $ drop t $ s)

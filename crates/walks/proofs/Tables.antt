@@ -11,8 +11,8 @@ use Rattle.walks.proofs.Kit.{MutSlice, finally, yes}
 use Rattle.table.specs.Words.{Memory}
 use Rattle.words.specs.declared.Sizes.{Sizes}
 use Rattle.words.specs.LentMemory.{lent_memory}
-use Rattle.walks.proofs.Parameters.{Parameter, slice-passed-on}
-use Rattle.walks.proofs.Rows.{given-up}
+use Rattle.walks.proofs.Parameters.{Parameter, slice_passed_on}
+use Rattle.walks.proofs.Rows.{given_up}
 
 -- a table of words, as the slot of a signature
 abbrev pub words : {n : ℕ} → Slot n
@@ -22,7 +22,7 @@ words = plain (λ _. u32)
 abbrev pub after_tables : (n : ℕ) {X : Type 2} (ok₀ : AllWithin n (0 ∷ [])) (ok₁ : AllWithin n (1 ∷ [])) (ok₂ : AllWithin n (2 ∷ [])) → X
     → Parameter {n = n} (mut_slice_of (0 ∷ []) ok₀ words) yes
     × (Parameter {n = n} (mut_slice_of (1 ∷ []) ok₁ words) yes × (Parameter {n = n} (mut_slice_of (2 ∷ []) ok₂ words) yes × X))
-after_tables n ok₀ ok₁ ok₂ others = (slice-passed-on 0 ok₀ words, (slice-passed-on 1 ok₁ words, (slice-passed-on 2 ok₂ words, others)))
+after_tables n ok₀ ok₁ ok₂ others = (slice_passed_on 0 ok₀ words, (slice_passed_on 1 ok₁ words, (slice_passed_on 2 ok₂ words, others)))
 
 -- the tables: their lifetimes, a share of each, and the references
 pub record LentTables : Type 0 where
@@ -113,55 +113,55 @@ module _ {M : Type 1} {𝓤 : Ura M} {𝓛 : Logic 𝓤} {K : Type 0} where
   open 𝓛 use {H}
 
   module _ {Γ : List (Item 𝓤)} {G : Goal 𝓤 H} (t : K) (ts : LentTables) where
-    tokens-apart : {X : Item 𝓤} → Step K 𝓛 (Lifetimes 𝓤 ts (X ∷ Γ)) G (Tokens 𝓤 ts X ∷ Γ) G
-    tokens-apart {X} = cut (Tokens 𝓤 ts X ∷ []) (Lifetimes 𝓤 ts (X ∷ [])) Γ (id⊢ 𝓤 _)
+    tokens_apart : {X : Item 𝓤} → Step K 𝓛 (Lifetimes 𝓤 ts (X ∷ Γ)) G (Tokens 𝓤 ts X ∷ Γ) G
+    tokens_apart {X} = cut (Tokens 𝓤 ts X ∷ []) (Lifetimes 𝓤 ts (X ∷ [])) Γ (id⊢ 𝓤 _)
 
-    tokens-together : {X : Item 𝓤} → Step K 𝓛 (Tokens 𝓤 ts X ∷ Γ) G (Lifetimes 𝓤 ts (X ∷ Γ)) G
-    tokens-together {X} = cut (Lifetimes 𝓤 ts (X ∷ [])) (Tokens 𝓤 ts X ∷ []) Γ (id⊢ 𝓤 _)
+    tokens_together : {X : Item 𝓤} → Step K 𝓛 (Tokens 𝓤 ts X ∷ Γ) G (Lifetimes 𝓤 ts (X ∷ Γ)) G
+    tokens_together {X} = cut (Lifetimes 𝓤 ts (X ∷ [])) (Tokens 𝓤 ts X ∷ []) Γ (id⊢ 𝓤 _)
 
   module _ {Γ : List (Item 𝓤)} {G : Goal 𝓤 H} where
     -- one lifetime more is had with those of the tables; and apart from them
-    pub token-in : K → (ts : LentTables) {κ : Lft} {q : Share}
+    pub token_in : K → (ts : LentTables) {κ : Lft} {q : Share}
         → Step K 𝓛 (Tokens 𝓤 ts (‵ (flft κ q) ⊛ ‵ ftrue) ∷ Γ) G (Tokens 𝓤 ts (‵ ftrue) ∷ ‵ (flft κ q) ∷ Γ) G
-    token-in t ts = step (λ s. tokens-apart t ts $ move t (4 ∷ 3 ∷ []) $ join t $ move t (1 ∷ 2 ∷ 3 ∷ []) $ tokens-together t ts $ s)
+    token_in t ts = step (λ s. tokens_apart t ts $ move t (4 ∷ 3 ∷ []) $ join t $ move t (1 ∷ 2 ∷ 3 ∷ []) $ tokens_together t ts $ s)
 
-    pub token-out : K → (ts : LentTables) {κ : Lft} {q : Share}
+    pub token_out : K → (ts : LentTables) {κ : Lft} {q : Share}
         → Step K 𝓛 (‵ (flft κ q) ∷ Tokens 𝓤 ts (‵ ftrue) ∷ Γ) G (Tokens 𝓤 ts (‵ (flft κ q) ⊛ ‵ ftrue) ∷ Γ) G
-    token-out t ts = step (λ s.
-        tokens-apart t ts $ move t (3 ∷ []) $ split t $ move t (2 ∷ 3 ∷ 4 ∷ 1 ∷ []) $ tokens-together t ts $ move t (1 ∷ []) $ s)
+    token_out t ts = step (λ s.
+        tokens_apart t ts $ move t (3 ∷ []) $ split t $ move t (2 ∷ 3 ∷ 4 ∷ 1 ∷ []) $ tokens_together t ts $ move t (1 ∷ []) $ s)
 
     -- on entry: the lifetimes and the tables, one by one, before the others
-    pub tables-apart : K → (ts : LentTables) {X : Item 𝓤} {P : Fml} → Step K 𝓛 (Lent 𝓤 ts (X ∷ ‵ P ∷ Γ)) G (Tokens 𝓤 ts X ∷ ‵ (Owned 𝓤 ts P) ∷ Γ) G
-    tables-apart t ts = step (λ s.
-        tokens-apart t ts $ move t (4 ∷ []) $ fsplit3 t $ move t (2 ∷ []) $ fsplit t $ move t (4 ∷ 5 ∷ 6 ∷ 2 ∷ 3 ∷ 0 ∷ 7 ∷ 1 ∷ []) $ s)
+    pub tables_apart : K → (ts : LentTables) {X : Item 𝓤} {P : Fml} → Step K 𝓛 (Lent 𝓤 ts (X ∷ ‵ P ∷ Γ)) G (Tokens 𝓤 ts X ∷ ‵ (Owned 𝓤 ts P) ∷ Γ) G
+    tables_apart t ts = step (λ s.
+        tokens_apart t ts $ move t (4 ∷ []) $ fsplit3 t $ move t (2 ∷ []) $ fsplit t $ move t (4 ∷ 5 ∷ 6 ∷ 2 ∷ 3 ∷ 0 ∷ 7 ∷ 1 ∷ []) $ s)
 
     -- where they were not touched, their last words are their words
     pub untouched : K → (ts : LentTables) (sizes : Sizes) → Step K 𝓛 (Last 𝓤 ts (memory_lent ts sizes) Γ) G (Lent 𝓤 ts Γ) G
     untouched t ts sizes = step (λ s.
-        move t (3 ∷ []) $ given-up t (named 0) ts.κs.0 u32 ts.addresses _ $
-        move t (4 ∷ []) $ given-up t (named 1) ts.κs.1.0 u32 ts.links _ $
-        move t (5 ∷ []) $ given-up t (named 2) ts.κs.1.1.0 u32 ts.deleters _ $
-        nothing t $ move t (4 ∷ 5 ∷ 6 ∷ 0 ∷ []) $ tokens-together t ts $ s)
+        move t (3 ∷ []) $ given_up t (named 0) ts.κs.0 u32 ts.addresses _ $
+        move t (4 ∷ []) $ given_up t (named 1) ts.κs.1.0 u32 ts.links _ $
+        move t (5 ∷ []) $ given_up t (named 2) ts.κs.1.1.0 u32 ts.deleters _ $
+        nothing t $ move t (4 ∷ 5 ∷ 6 ∷ 0 ∷ []) $ tokens_together t ts $ s)
 
     -- after a call to which they were passed on: their last words, as many as there were
-    pub last-words : K → (ts : LentTables) (m : Memory) {P : Fml} → (SameLengths ts m → Seq K 𝓛 (LastWords 𝓤 ts m (‵ P ∷ Γ)) G)
+    pub last_words : K → (ts : LentTables) (m : Memory) {P : Fml} → (SameLengths ts m → Seq K 𝓛 (LastWords 𝓤 ts m (‵ P ∷ Γ)) G)
         → Seq K 𝓛 (‵ (fsep (lastly ts.addresses m.addresses)
         (fsep (lastly ts.links m.links) (fsep (lastly ts.deleters m.deleters) P))) ∷ Γ) G
-    last-words t ts m k =
+    last_words t ts m k =
         fsplit t $ fsplit t $ move t (1 ∷ []) $ feq_l t (λ a. move t (1 ∷ []) $ fsplit t $ fsplit t $ move t (1 ∷ []) $ feq_l t (λ l.
         move t (1 ∷ []) $ fsplit t $ fsplit t $ move t (1 ∷ []) $ feq_l t (λ d. move t (0 ∷ 2 ∷ 3 ∷ 1 ∷ []) $
         k (record { addresses = a; links = l; deleters = d }))))
 
     -- at exit: the last words, together with the others
-    pub last-together : K → (ts : LentTables) (m : Memory) {P : Fml}
+    pub last_together : K → (ts : LentTables) (m : Memory) {P : Fml}
         → Step K 𝓛 (‵ (fsep (finally u32 ts.addresses.name m.addresses)
         (fsep (finally u32 ts.links.name m.links) (fsep (finally u32 ts.deleters.name m.deleters) P))) ∷ Γ) G
         (‵ P ∷ LastWords 𝓤 ts m Γ) G
-    last-together t ts m = step (λ s. move t (1 ∷ 0 ∷ []) $ fjoin t $ move t (1 ∷ 0 ∷ []) $ fjoin t $ move t (1 ∷ 0 ∷ []) $ fjoin t $ s)
+    last_together t ts m = step (λ s. move t (1 ∷ 0 ∷ []) $ fjoin t $ move t (1 ∷ 0 ∷ []) $ fjoin t $ move t (1 ∷ 0 ∷ []) $ fjoin t $ s)
 
   -- what a callee asks that takes the tables first and requires nothing
   pub asked : K → (ts : LentTables) {X : Item 𝓤} {P : Fml}
       → Seq K 𝓛 (X ∷ ‵ P ∷ Lent 𝓤 ts []) (prop (sep 𝓤 (sep 𝓤 (mean 𝓛 (Tokens 𝓤 ts X)) (sem 𝓛 (Owned 𝓤 ts P))) (emp 𝓤)))
   asked t ts =
-      move t (2 ∷ 3 ∷ 4 ∷ 0 ∷ []) $ tokens-together t ts $ move t (4 ∷ 1 ∷ []) $ fjoin t $ move t (3 ∷ 0 ∷ []) $ fjoin t $
+      move t (2 ∷ 3 ∷ 4 ∷ 0 ∷ []) $ tokens_together t ts $ move t (4 ∷ 1 ∷ []) $ fjoin t $ move t (3 ∷ 0 ∷ []) $ fjoin t $
       move t (2 ∷ 0 ∷ []) $ fjoin t $ move t (1 ∷ 0 ∷ []) $ join t $ nothing t $ move t (1 ∷ 0 ∷ []) $ done t

@@ -22,6 +22,6 @@ module _ (words : List ℕ) (n : Node) (found expected new : ℕ) (e : found ≡
   unfolding swap_of
   swaps after is h = rw (is, e, eq-eqb (get_or words n.0 0) expected (sym e ∙ h))
 
-  pub swaps-not : (found ≡ expected → ⊥) → swap_left words (swapped false found) ≡ swap_of words n expected new
+  pub swaps_not : (found ≡ expected → ⊥) → swap_left words (swapped false found) ≡ swap_of words n expected new
   unfolding swap_of
-  swaps-not h = rw (e, ne_eqb (get_or words n.0 0) expected (λ k. h (e ∙ k)))
+  swaps_not h = rw (e, ne_eqb (get_or words n.0 0) expected (λ k. h (e ∙ k)))

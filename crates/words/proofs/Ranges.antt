@@ -27,15 +27,15 @@ module _ (r : Record) where
   abbrev fields : Bool
   fields = leb r.lost.place 19 && leb r.kept.kind 2 && leb r.lost.pending 3 && leb r.kept.result 2
 
-  pub first-places : r.lost.place ≤ 2 → (fields && not (eqb r.kept.kind find_kind)) ≡ in_range r
+  pub first_places : r.lost.place ≤ 2 → (fields && not (eqb r.kept.kind find_kind)) ≡ in_range r
   unfolding in_range
-  first-places h =
+  first_places h =
       let place = r.lost.place in
       rw (le-leb place 2 h, ne_eqb place 18 (λ e. omega arith), ne_eqb place 19 (λ e. omega arith), and_true (fields && true), and_true fields)
 
-  pub middle-places : 2 < r.lost.place → r.lost.place < 18 → fields ≡ in_range r
+  pub middle_places : 2 < r.lost.place → r.lost.place < 18 → fields ≡ in_range r
   unfolding in_range
-  middle-places l h =
+  middle_places l h =
       let place = r.lost.place in
       rw (
         lt-leb place 2 l,
@@ -46,10 +46,10 @@ module _ (r : Record) where
         and_true fields,
       )
 
-  pub last-places : 18 ≤ r.lost.place →
+  pub last_places : 18 ≤ r.lost.place →
       (fields && not (eqb r.lost.pending no_answer) && (not (eqb r.lost.place 18) || not (eqb r.lost.pending fail_answer))) ≡ in_range r
   unfolding in_range
-  last-places l =
+  last_places l =
       let place = r.lost.place in
       rw (lt-leb place 2 (omega arith), and_true)
       (last_tests (eqb place 18) (eqb place 19) fields (eqb r.lost.pending no_answer) (eqb r.lost.pending fail_answer)

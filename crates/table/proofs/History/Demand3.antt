@@ -6,12 +6,12 @@ use Rattle.table.specs.Demand3.{history, Demand3, Demand3Fresh}
 use Rattle.table.proofs.Invariant.Played.{Played}
 use Rattle.table.proofs.Order.Ordered.{ordered}
 use Rattle.table.proofs.Order.Supplied.{supplied}
-use Rattle.table.proofs.History.Start.{fresh-quiet, fresh-holds-nothing}
-use Rattle.table.proofs.History.Struck.{struck-once}
+use Rattle.table.proofs.History.Start.{fresh_quiet, fresh_holds_nothing}
+use Rattle.table.proofs.History.Struck.{struck_once}
 
 pub demand_3 : Demand3
 unfolding Demand3
-demand_3 σ₀ e quiet fit start begin T = (ordered (history σ₀ e start T) (supplied ρ start begin T), struck-once ρ T)
+demand_3 σ₀ e quiet fit start begin T = (ordered (history σ₀ e start T) (supplied ρ start begin T), struck_once ρ T)
   where
     ρ : Played
     ρ = record { start = σ₀; events = e; quiet = quiet; fit = fit }
@@ -19,4 +19,4 @@ demand_3 σ₀ e quiet fit start begin T = (ordered (history σ₀ e start T) (s
 pub demand_3_fresh : Demand3Fresh
 unfolding Demand3Fresh Demand3
 demand_3_fresh nodes processes sizes e fit T =
-    demand_3 (fresh nodes processes) e (fresh-quiet nodes processes sizes) fit (λ a. false) (fresh-holds-nothing nodes processes sizes) T
+    demand_3 (fresh nodes processes) e (fresh_quiet nodes processes sizes) fit (λ a. false) (fresh_holds_nothing nodes processes sizes) T

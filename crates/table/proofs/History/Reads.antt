@@ -21,11 +21,11 @@ use Rattle.table.specs.Chain.{Held}
 use Rattle.table.specs.History.{Kind, insert, delete, find, Answer, Operation, Set}
 use Rattle.table.specs.Demand3.{request_of, if_accepted, operation, history}
 use Rattle.table.proofs.Laws.Numbered.{HeldIn}
-use Rattle.table.proofs.Invariant.Known.{Since, HeldSince, GoneSince, FindSays, insert-known, delete-known, find-known, insert-says}
-use Rattle.table.proofs.Invariant.Known.{delete-says, find-says}
+use Rattle.table.proofs.Invariant.Known.{Since, HeldSince, GoneSince, FindSays, insert_known, delete_known, find_known, insert_says}
+use Rattle.table.proofs.Invariant.Known.{delete_says, find_says}
 use Rattle.table.proofs.Invariant.Played.{Played, memory_at, record_then, outcome_at, process_at, kind_at, address_asked, asked_at, IsOperation}
 use Rattle.table.proofs.Invariant.Played.{answer_to}
-use Rattle.table.proofs.Invariant.OpenOperations.{AnsweredAt, answered, value-true}
+use Rattle.table.proofs.Invariant.OpenOperations.{AnsweredAt, answered, value_true}
 use Rattle.table.proofs.Order.Needs.{AnswerTells, Witness}
 
 -- ---- operations
@@ -84,13 +84,13 @@ module _ (ρ : Played) where
   abbrev M : ℕ → Memory
   M = memory_at ρ
 
-  pub operation-asked : (T r : ℕ) → IsOperation ρ r → operation ρ.start ρ.events T r ≡ some (operation_for (ρ.events r) (answer_to ρ T r))
-  operation-asked T r is = ap (λ x. if_accepted x (request_of (ρ.events r).process (ρ.events r).action (answer_to ρ T r))) is.accepted
+  pub operation_asked : (T r : ℕ) → IsOperation ρ r → operation ρ.start ρ.events T r ≡ some (operation_for (ρ.events r) (answer_to ρ T r))
+  operation_asked T r is = ap (λ x. if_accepted x (request_of (ρ.events r).process (ρ.events r).action (answer_to ρ T r))) is.accepted
       ∙ request_asked (ρ.events r) (answer_to ρ T r) is.request
 
-  pub operation-is : (T r : ℕ) (o : Operation) → operation ρ.start ρ.events T r ≡ some o
+  pub operation_is : (T r : ℕ) (o : Operation) → operation ρ.start ρ.events T r ≡ some o
       → IsOperation ρ r × (o ≡ operation_for (ρ.events r) (answer_to ρ T r))
-  operation-is T r o q = (is, some-injective o (operation_for (ρ.events r) (answer_to ρ T r)) (sym q ∙ operation-asked T r is))
+  operation_is T r o q = (is, some-injective o (operation_for (ρ.events r) (answer_to ρ T r)) (sym q ∙ operation_asked T r is))
     where
       z : (outcome_at ρ r ≡ Accepted) × (request_of (ρ.events r).process (ρ.events r).action (answer_to ρ T r) ≡ some o)
       z = accepted_is (outcome_at ρ r) (request_of (ρ.events r).process (ρ.events r).action (answer_to ρ T r)) o q
@@ -127,39 +127,39 @@ module _ (ρ : Played) where
       tells = rw q t;
     }
 
-    insert-told : kind_at ρ r ≡ insert_kind → a.value ≡ false_answer → Told
-    insert-told k v = telling insert (asks_insert (ρ.events r).action k) z.0 z.1 (v, z.2)
+    insert_told : kind_at ρ r ≡ insert_kind → a.value ≡ false_answer → Told
+    insert_told k v = telling insert (asks_insert (ρ.events r).action k) z.0 z.1 (v, z.2)
       where
         z : HeldSince M r a.time (asked_at ρ r)
         z = rw x.0.busy.named at
-            ((insert-says x.0.place x.0.status (insert-known k x.0.busy.known)).if_false (sym x.0.value ∙ v)).1
+            ((insert_says x.0.place x.0.status (insert_known k x.0.busy.known)).if_false (sym x.0.value ∙ v)).1
 
-    delete-told : kind_at ρ r ≡ delete_kind → a.value ≡ false_answer → Told
-    delete-told k v = telling delete (asks_delete (ρ.events r).action k) z.0 z.1 (v, z.2)
+    delete_told : kind_at ρ r ≡ delete_kind → a.value ≡ false_answer → Told
+    delete_told k v = telling delete (asks_delete (ρ.events r).action k) z.0 z.1 (v, z.2)
       where
         z : GoneSince M r a.time (asked_at ρ r)
         z = rw x.0.busy.named at
-            ((delete-says x.0.place x.0.status (delete-known k x.0.busy.known)).if_false (sym x.0.value ∙ v)).1
+            ((delete_says x.0.place x.0.status (delete_known k x.0.busy.known)).if_false (sym x.0.value ∙ v)).1
 
-    find-told : kind_at ρ r ≡ find_kind → a.value ≢ fail_answer → Dec (a.value ≡ false_answer) → Told
-    find-told k n = by
+    find_told : kind_at ρ r ≡ find_kind → a.value ≢ fail_answer → Dec (a.value ≡ false_answer) → Told
+    find_told k n = by
       where
         says : FindSays M r a.time (asked_at ρ r) R.lost.pending
-        says = rw x.0.busy.named at (find-says x.0.place x.0.status (find-known k x.0.busy.known))
+        says = rw x.0.busy.named at (find_says x.0.place x.0.status (find_known k x.0.busy.known))
 
         by : Dec (a.value ≡ false_answer) → Told
         by (yes v) = let z = says.if_false (sym x.0.value ∙ v) in telling find (asks_find (ρ.events r).action k) z.0 z.1 (inr (v, z.2))
-        by (no v) = let t = value-true ρ r a x.0 v n in let z = says.if_true (sym x.0.value ∙ t) in
+        by (no v) = let t = value_true ρ r a x.0 v n in let z = says.if_true (sym x.0.value ∙ t) in
             telling find (asks_find (ρ.events r).action k) z.0 z.1 (inl (t, z.2))
 
     -- an operation answered true or false: an insert or a delete answered true, or it has a witness
-    pub true-or-told : a.value ≢ fail_answer → ((a.value ≡ true_answer) × ((kind_at ρ r ≡ insert_kind) ⊎ (kind_at ρ r ≡ delete_kind))) ⊎ Told
-    true-or-told n = cases (ℕ_discrete (kind_at ρ r) insert_kind) (ℕ_discrete (kind_at ρ r) delete_kind) (ℕ_discrete a.value false_answer)
+    pub true_or_told : a.value ≢ fail_answer → ((a.value ≡ true_answer) × ((kind_at ρ r ≡ insert_kind) ⊎ (kind_at ρ r ≡ delete_kind))) ⊎ Told
+    true_or_told n = cases (ℕ_discrete (kind_at ρ r) insert_kind) (ℕ_discrete (kind_at ρ r) delete_kind) (ℕ_discrete a.value false_answer)
       where
         cases : Dec (kind_at ρ r ≡ insert_kind) → Dec (kind_at ρ r ≡ delete_kind) → Dec (a.value ≡ false_answer)
             → ((a.value ≡ true_answer) × ((kind_at ρ r ≡ insert_kind) ⊎ (kind_at ρ r ≡ delete_kind))) ⊎ Told
-        cases (yes k) d (yes v) = inr (insert-told k v)
-        cases (yes k) d (no v) = inl (value-true ρ r a x.0 v n, inl k)
-        cases (no i) (yes k) (yes v) = inr (delete-told k v)
-        cases (no i) (yes k) (no v) = inl (value-true ρ r a x.0 v n, inr k)
-        cases (no i) (no k) d = inr (find-told (omega (arith, is.request, i, k)) n d)
+        cases (yes k) d (yes v) = inr (insert_told k v)
+        cases (yes k) d (no v) = inl (value_true ρ r a x.0 v n, inl k)
+        cases (no i) (yes k) (yes v) = inr (delete_told k v)
+        cases (no i) (yes k) (no v) = inl (value_true ρ r a x.0 v n, inr k)
+        cases (no i) (no k) d = inr (find_told (omega (arith, is.request, i, k)) n d)

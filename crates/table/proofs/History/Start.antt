@@ -29,26 +29,26 @@ module _ (nodes processes : ℕ) (fit : sizes_fit nodes processes ≡ true) wher
   abbrev m₀ : Memory
   m₀ = fresh_memory nodes processes
 
-  two-nodes : {n : Node} → OnChain m₀ n → (n ≡ head_node) ⊎ (n ≡ tail_node)
+  two_nodes : {n : Node} → OnChain m₀ n → (n ≡ head_node) ⊎ (n ≡ tail_node)
   unfolding fresh_memory link_at
-  two-nodes (here q) = inl (sym q)
-  two-nodes (next r ne q) = elim (two-nodes r) [ inl w ↦ inr (sym q ∙ ap (follows m₀) w) | inr w ↦ absurd (ne w) ]
+  two_nodes (here q) = inl (sym q)
+  two_nodes (next r ne q) = elim (two_nodes r) [ inl w ↦ inr (sym q ∙ ap (follows m₀) w) | inr w ↦ absurd (ne w) ]
 
-  fresh-room : Room m₀
-  fresh-room = room_fresh nodes processes (limits_of nodes processes fit).two
+  fresh_room : Room m₀
+  fresh_room = room_fresh nodes processes (limits_of nodes processes fit).two
 
-  fresh-tables : tables_fit m₀ ≡ true
+  fresh_tables_lem : tables_fit m₀ ≡ true
   unfolding fresh_memory
-  fresh-tables = fit_of m₀ fit fresh-room
+  fresh_tables_lem = fit_of m₀ fit fresh_room
 
-  pub fresh-quiet : Quiet (fresh nodes processes)
+  pub fresh_quiet : Quiet (fresh nodes processes)
   unfolding fresh record_in link_at address_at deleter_at rank fresh_memory
-  fresh-quiet = record {
-    tables = fresh-tables;
+  fresh_quiet = record {
+    tables = fresh_tables_lem;
     row = omega (arith, length-replicate {A = Record} processes fresh_record);
     idle = λ p l. ap (λ r. r.kept.status) (all_the_same fresh_record processes p.0);
-    rises = λ n o ne. rises n ne (two-nodes o);
-    used = λ n o. used n (two-nodes o);
+    rises = λ n o ne. rises n ne (two_nodes o);
+    used = λ n o. used n (two_nodes o);
     small = λ n o. omega (arith, all_the_same {A = ℕ} 0 nodes n.0);
     head = refl;
     tail = refl;
@@ -60,12 +60,12 @@ module _ (nodes processes : ℕ) (fit : sizes_fit nodes processes ≡ true) wher
       rises n ne (inr q) = absurd (ne q)
 
       used : (n : Node) → (n ≡ head_node) ⊎ (n ≡ tail_node) → in_use m₀ n ≡ true
-      used n (inl q) = rw q (head_in_use fresh-room)
-      used n (inr q) = rw q (tail_in_use fresh-room)
+      used n (inl q) = rw q (head_in_use fresh_room)
+      used n (inr q) = rw q (tail_in_use fresh_room)
 
-  pub fresh-holds-nothing : IsHeld (fresh nodes processes).memory (λ a. false)
+  pub fresh_holds_nothing : IsHeld (fresh nodes processes).memory (λ a. false)
   unfolding fresh
-  fresh-holds-nothing a = ((λ q. absurd (false≢true q)), (λ h. absurd (none h (two-nodes h.1.on))))
+  fresh_holds_nothing a = ((λ q. absurd (false≢true q)), (λ h. absurd (none h (two_nodes h.1.on))))
     where
       none : (h : Held m₀ a) → (h.0 ≡ head_node) ⊎ (h.0 ≡ tail_node) → ⊥
       none h (inl q) = h.1.not_head q

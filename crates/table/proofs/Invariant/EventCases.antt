@@ -4,7 +4,7 @@ use Rattle.table.proofs.Common.{process, idle_status, running_status, insert_kin
 use Rattle.table.proofs.Common.{Accepted, Memory, next_node, none_left, written, given_out, Place, place_of, turn_in, in_range, leaving}
 use Rattle.table.proofs.Common.{status_needed, State, state_of, Leaves, leaves_in, does, record_in, stored, event}
 use Rattle.basics.proofs.Tests.{and_left}
-use Rattle.table.proofs.Laws.Meets.{Alone, does-meets, act-judged, refused_stored, event-meets}
+use Rattle.table.proofs.Laws.Meets.{Alone, does_meets, act_judged, refused_stored, event_meets}
 use Rattle.table.proofs.Invariant.KnownWrites.{goes_at, writes_at, says_at}
 
 -- ---- records by process number
@@ -50,22 +50,22 @@ module _ (σ : State) (e : Event) where
         → Happens (leaves_in (state_with σ p (written (writes_at l m p R) m) (goes_at l m p R)) (says_at l m p R))
     alone : (Q : Record) → Able σ p (status_needed e.action) → Alone R e.action Q → Happens (leaves_in (state_with σ p m Q) Accepted)
 
-  refuses-stored : (k : ℕ) → Happens (stored σ e.process (leaving m R (Refused k)))
-  refuses-stored k = rw (refused_stored σ e.process k) (refuses k)
+  refuses_stored : (k : ℕ) → Happens (stored σ e.process (leaving m R (Refused k)))
+  refuses_stored k = rw (refused_stored σ e.process k) (refuses k)
 
   -- an event of a process that is there and has the status it needs
-  does-happens : Able σ p (status_needed e.action) → Happens (stored σ e.process (does m e.process R e.action))
+  does_happens : Able σ p (status_needed e.action) → Happens (stored σ e.process (does m e.process R e.action))
   unfolding stored turn_in
-  does-happens b = does-meets (λ d. Happens (stored σ e.process d)) m e.process R e.action
-      (refuses-stored 3) (λ a is spare. inserts a is (rw is at b) spare)
-      (refuses-stored 8) (λ is f. steps is (rw is at b) (and_left (in_range R) _ f) (place_of R.lost.place) refl)
+  does_happens b = does_meets (λ d. Happens (stored σ e.process d)) m e.process R e.action
+      (refuses_stored 3) (λ a is spare. inserts a is (rw is at b) spare)
+      (refuses_stored 8) (λ is f. steps is (rw is at b) (and_left (in_range R) _ f) (place_of R.lost.place) refl)
       (λ Q z. alone Q b z)
 
   pub happens : Happens (event σ e)
-  happens = event-meets σ e Happens
-      (λ long. act-judged (λ d. Happens (stored σ e.process d)) m e.process R e.action
-      (λ unfit. refuses-stored 7) (λ fit beyond. refuses-stored 1) (λ fit there other. refuses-stored 2)
+  happens = event_meets σ e Happens
+      (λ long. act_judged (λ d. Happens (stored σ e.process d)) m e.process R e.action
+      (λ unfit. refuses_stored 7) (λ fit beyond. refuses_stored 1) (λ fit there other. refuses_stored 2)
       (λ fit there ready.
       let h = ltb-true p m.processes there in
-      does-happens (record { there = h; in_row = omega arith; has = eqb-true R.kept.status (status_needed e.action) ready })))
+      does_happens (record { there = h; in_row = omega arith; has = eqb-true R.kept.status (status_needed e.action) ready })))
       (refuses 7)

@@ -3,7 +3,7 @@
 use Rattle.table.proofs.Common.{◌≡◌, refl, ◌≢◌, ◌⊎◌, inl, inr, Bool, true, false, cond, not, ◌&&◌, ℕ, ◌+◌, eqb, idle_status, insert_kind, delete_kind}
 use Rattle.table.proofs.Common.{no_answer, record_of, Lost, Record, Outcome, Accepted, Answered, Memory, target_of, is_marked, below, equal, Write}
 use Rattle.table.proofs.Common.{nothing, Place, p0, p1, p2, p3, p4, p5, p6, p7, p8, p9, p10, p11, p12, p13, p14, p15, p16, p17, p18, p19, off}
-use Rattle.table.proofs.Common.{Next, row, searchEnds, record_after, word_met}
+use Rattle.table.proofs.Common.{Next, row, search_ends, record_after, word_met}
 use Rattle.table.proofs.Laws.Numbered.{link_in, deleter_in, pred_in, curr_in, succ_in, own_in, asked_in, plain_to}
 use Rattle.table.proofs.Invariant.KnownWrites.{goes_at, writes_at, says_at}
 
@@ -37,7 +37,7 @@ OnNext l R x = On' l R (record_after x)
 
 pub goes_on : (l : Place) (m : Memory) (p : ℕ) (R : Record)
     → HandsOut l R (goes_at l m p R) (says_at l m p R) (writes_at l m p R) ⊎ GoesOn l R (goes_at l m p R) (says_at l m p R)
-unfolding row searchEnds word_met
+unfolding row search_ends word_met
 goes_on p0 m p R = inr same
 goes_on p1 m p R = inr (either (OnNext p1 R) (is_marked (link_in m (curr_in R))) same
     (either (OnNext p1 R) (below m.addresses R.lost.curr R.kept.address) same

@@ -5,9 +5,9 @@ use Rattle.table.proofs.Common.{Memory, Write, none_left, written, given_out}
 use Rattle.table.proofs.Laws.Reaching.{once}
 use Rattle.table.proofs.Laws.Numbered.{link_in, deleter_in, address_in, rank_in, follows_in, Used, plain_to, marked_to, link_set, deleter_set, Marked}
 use Rattle.table.proofs.Laws.Numbered.{Plain, On, Holder, HeldIn, held_number, held_node, rank_inner, link_at_lem, link_else, link_signed}
-use Rattle.table.proofs.Laws.Numbered.{address_written, next_in, used_not_next, given-link, given-link-else, given-address-else}
-use Rattle.table.proofs.Invariant.Effects.{Orderly, Keeps, Insertable, Does, owns, adds, cuts, strikes, signs, add-on, does-keeps, IsAdds}
-use Rattle.table.proofs.Invariant.Effects.{does-new, given_back, given-keeps}
+use Rattle.table.proofs.Laws.Numbered.{address_written, next_in, used_not_next, given_link, given_link_else, given_address_else}
+use Rattle.table.proofs.Invariant.Effects.{Orderly, Keeps, Insertable, Does, owns, adds, cuts, strikes, signs, add_on, does_keeps, IsAdds}
+use Rattle.table.proofs.Invariant.Effects.{does_new, given_back, given_keeps}
 use Rattle.table.proofs.Invariant.Moments.{between}
 
 module _ (m m' : Memory) where
@@ -43,8 +43,8 @@ module _ {m m' : Memory} (i : Orderly m) (kp : Keeps m m') (ad : (x : ℕ) → O
     named = ad y h.on ∙ h.named;
   }
 
-  held-before : (x y : ℕ) → Holder m' x y → On m y → Holder m x y
-  held-before x y h o = record {
+  held_before : (x y : ℕ) → Holder m' x y → On m y → Holder m x y
+  held_before x y h o = record {
     on = o;
     inner = h.inner;
     plain = elim (ℕ_discrete (link_in m y % 2) 1) [
@@ -54,9 +54,9 @@ module _ {m m' : Memory} (i : Orderly m) (kp : Keeps m m') (ad : (x : ℕ) → O
     named = sym (ad y o) ∙ h.named;
   }
 
-  same-held : ((y : ℕ) → On m' y → On m y) → ((y : ℕ) → On m y → Plain m y → Plain m' y) → (x : ℕ) → HeldIn m' x ↔ HeldIn m x
-  same-held b f x = (
-    (λ h. let z = held_number h.1 in (h.0, held_node (held-before x h.0.0 z (b h.0.0 z.on)))),
+  same_held : ((y : ℕ) → On m' y → On m y) → ((y : ℕ) → On m y → Plain m y → Plain m' y) → (x : ℕ) → HeldIn m' x ↔ HeldIn m x
+  same_held b f x = (
+    (λ h. let z = held_number h.1 in (h.0, held_node (held_before x h.0.0 z (b h.0.0 z.on)))),
     (λ h. let z = held_number h.1 in (h.0, held_node (held_after x h.0.0 z (f h.0.0 z.on z.plain)))),
   )
 
@@ -67,23 +67,23 @@ rests_held m = record { same = λ x. ((λ h. h), (λ h. h)); chain = λ y o. o; 
 
 module _ {m : Memory} (i : Orderly m) where
   -- an even word is written
-  plain-after : (a w : ℕ) → Used m a → w % 2 ≡ 0 → (y : ℕ) → Plain m y → Plain (written (link_set a w) m) y
-  plain-after a w u ev y h = elim (ℕ_discrete y a) [
+  plain_after : (a w : ℕ) → Used m a → w % 2 ≡ 0 → (y : ℕ) → Plain m y → Plain (written (link_set a w) m) y
+  plain_after a w u ev y h = elim (ℕ_discrete y a) [
     | yes q ↦ omega (arith, ap (link_in (written (link_set a w) m)) q, link_at_lem i.room a w u)
     | no q ↦ omega (arith, link_else m a w y q)
   ]
 
   module _ {p n k : ℕ} {f : Write} (d : Does m p n k f) where
     kept : Keeps m (written f m)
-    kept = (does-keeps i d).1
+    kept = (does_keeps i d).1
 
     address_kept : (x : ℕ) → On m x → address_in (written f m) x ≡ address_in m x
     address_kept x o = address_written f m x
 
     keeps : ((y : ℕ) → On m y ⊎ ((y ≡ n) × IsAdds d) → On m y) → ((y : ℕ) → Plain m y → Plain (written f m) y) → KeepsHeld m (written f m)
     keeps b g = record {
-      same = same-held i kept address_kept (λ y o. b y (does-new i d o)) (λ y o. g y);
-      chain = λ y o. b y (does-new i d o);
+      same = same_held i kept address_kept (λ y o. b y (does_new i d o)) (λ y o. g y);
+      chain = λ y o. b y (does_new i d o);
       plain = g;
     }
 
@@ -92,13 +92,13 @@ module _ {m : Memory} (i : Orderly m) where
   old n y (inr z) = absurd z.1
 
   -- a new node is put in
-  pub adds-held : (n a c : ℕ) → Insertable m n a c → PutsHeld m (written (link_set a (plain_to n)) m) n (address_in m n)
-  adds-held n a c v = record {
+  pub adds_held : (n a c : ℕ) → Insertable m n a c → PutsHeld m (written (link_set a (plain_to n)) m) n (address_in m n)
+  adds_held n a c v = record {
     on = on;
     free = between i a (address_in m n) v.on (omega (arith, rn, v.above)) (omega (arith, rn, ap (rank_in m) ac, v.under));
-    adds = λ x. ((λ z. let y = held_number z.1 in from x z.0.0 y (does-new i d y.on)), (λ z. into x z));
-    chain = λ y z. fresh y (does-new i d z);
-    plain = λ y h. plain-after a (plain_to n) (i.used a v.on) (omega arith) y h;
+    adds = λ x. ((λ z. let y = held_number z.1 in from x z.0.0 y (does_new i d y.on)), (λ z. into x z));
+    chain = λ y z. fresh y (does_new i d z);
+    plain = λ y h. plain_after a (plain_to n) (i.used a v.on) (omega arith) y h;
   }
     where
       m' : Memory
@@ -118,10 +118,10 @@ module _ {m : Memory} (i : Orderly m) where
       ac = omega (arith, v.before)
 
       on : On (written (link_set a (plain_to n)) m) n
-      on = add-on i a n c v
+      on = add_on i a n c v
 
       from : (x y : ℕ) → Holder (written (link_set a (plain_to n)) m) x y → On m y ⊎ ((y ≡ n) × Unit {0}) → (x ≡ address_in m n) ⊎ HeldIn m x
-      from x y z (inl q) = inr (node y, held_node (held-before i (kept d) (address_kept d) x y z q))
+      from x y z (inl q) = inr (node y, held_node (held_before i (kept d) (address_kept d) x y z q))
       from x y z (inr q) = inl (sym z.named ∙ address_written (link_set a (plain_to n)) m y ∙ ap (address_in m) q.0)
 
       na : n ≢ a
@@ -140,19 +140,19 @@ module _ {m : Memory} (i : Orderly m) where
       into x (inr z) = let y = held_number z.1 in (
         z.0,
         held_node (held_after i (kept d) (address_kept d) x z.0.0 y
-            (plain-after a (plain_to n) (i.used a v.on) (omega arith) z.0.0 y.plain)),
+            (plain_after a (plain_to n) (i.used a v.on) (omega arith) z.0.0 y.plain)),
       )
 
   -- a held node is struck
-  pub strikes-held : (c s : ℕ) → 2 ≤ c → On m c → link_in m c ≡ plain_to s → TakesHeld m (written (link_set c (marked_to s)) m) c (address_in m c)
-  strikes-held c s h o e = record {
+  pub strikes_held : (c s : ℕ) → 2 ≤ c → On m c → link_in m c ≡ plain_to s → TakesHeld m (written (link_set c (marked_to s)) m) c (address_in m c)
+  strikes_held c s h o e = record {
     held = record { on = o; inner = h; plain = omega arith; named = refl };
     marked = omega (arith, lc);
     removes = λ x. (
-      (λ z. let y = held_number z.1 in from x z.0.0 y (old 0 z.0.0 (does-new i d y.on))),
+      (λ z. let y = held_number z.1 in from x z.0.0 y (old 0 z.0.0 (does_new i d y.on))),
       (λ z. into x z.0 z.1),
     );
-    chain = λ y z. old 0 y (does-new i d z);
+    chain = λ y z. old 0 y (does_new i d z);
     plain = λ y ne h. omega (arith, link_else m c (marked_to s) y ne);
   }
     where
@@ -169,7 +169,7 @@ module _ {m : Memory} (i : Orderly m) where
       from x y z q = ((λ w. nc (same w)), (node y, held_node hy))
         where
           hy : Holder m x y
-          hy = held-before i (kept d) (address_kept d) x y z q
+          hy = held_before i (kept d) (address_kept d) x y z q
 
           nc : y ≢ c
           nc w = absurd (omega (arith, ap (link_in m') w, z.plain, lc))
@@ -189,29 +189,29 @@ module _ {m : Memory} (i : Orderly m) where
 
   -- the other writes
 
-  pub owns-held : (n w : ℕ) → 2 ≤ n → Used m n → (On m n → ⊥) → Plain m n → w % 2 ≡ 0 → KeepsHeld m (written (link_set n w) m)
-  owns-held n w a b c g e = let d : Does m 0 n 0 (link_set n w) = owns w a b c g e in keeps d (old n) (λ y h. plain-after n w b e y h)
+  pub owns_held : (n w : ℕ) → 2 ≤ n → Used m n → (On m n → ⊥) → Plain m n → w % 2 ≡ 0 → KeepsHeld m (written (link_set n w) m)
+  owns_held n w a b c g e = let d : Does m 0 n 0 (link_set n w) = owns w a b c g e in keeps d (old n) (λ y h. plain_after n w b e y h)
 
-  pub cuts-held : (a c s : ℕ) → On m a → link_in m a ≡ plain_to c → link_in m c ≡ marked_to s → KeepsHeld m (written (link_set a (plain_to s)) m)
-  cuts-held a c s o e g = let d : Does m 0 0 0 (link_set a (plain_to s)) = cuts a c s o e g in
-      keeps d (old 0) (λ y h. plain-after a (plain_to s) (i.used a o) (omega arith) y h)
+  pub cuts_held : (a c s : ℕ) → On m a → link_in m a ≡ plain_to c → link_in m c ≡ marked_to s → KeepsHeld m (written (link_set a (plain_to s)) m)
+  cuts_held a c s o e g = let d : Does m 0 0 0 (link_set a (plain_to s)) = cuts a c s o e g in
+      keeps d (old 0) (λ y h. plain_after a (plain_to s) (i.used a o) (omega arith) y h)
 
-  pub signs-held : (p x : ℕ) → Used m x → Marked m x → deleter_in m x ≡ 0 → KeepsHeld m (written (deleter_set x (p + 1)) m)
-  signs-held p x u s g = let d : Does m p 0 x (deleter_set x (p + 1)) = signs x refl u s g in keeps d (old 0)
+  pub signs_held : (p x : ℕ) → Used m x → Marked m x → deleter_in m x ≡ 0 → KeepsHeld m (written (deleter_set x (p + 1)) m)
+  signs_held p x u s g = let d : Does m p 0 x (deleter_set x (p + 1)) = signs x refl u s g in keeps d (old 0)
       (λ y h. omega (arith, link_signed m x (p + 1) y))
 
   -- a node given out changes nothing held
-  pub given-held : (a : Address) → none_left m ≡ false → KeepsHeld m (given_out a m)
-  given-held a spare = record {
-    same = same-held i (given-keeps i a spare).1 (λ x o. given-address-else a m x (nc x o)) (λ y o. given_back i a spare o)
-        (λ y o h. omega (arith, given-link-else a m y (nc y o)));
+  pub given_held : (a : Address) → none_left m ≡ false → KeepsHeld m (given_out a m)
+  given_held a spare = record {
+    same = same_held i (given_keeps i a spare).1 (λ x o. given_address_else a m x (nc x o)) (λ y o. given_back i a spare o)
+        (λ y o h. omega (arith, given_link_else a m y (nc y o)));
     chain = λ y o. given_back i a spare o;
     plain = λ y h. pl y h (ℕ_discrete y (next_in m));
   }
     where
       pl : (y : ℕ) → Plain m y → Dec (y ≡ next_in m) → Plain (given_out a m) y
-      pl y h (yes q) = omega (arith, ap (link_in (given_out a m)) q, given-link a m i.room spare)
-      pl y h (no q) = omega (arith, given-link-else a m y q)
+      pl y h (yes q) = omega (arith, ap (link_in (given_out a m)) q, given_link a m i.room spare)
+      pl y h (no q) = omega (arith, given_link_else a m y q)
 
       nc : (x : ℕ) → On m x → x ≢ next_in m
       nc x o = used_not_next m x (i.used x o)

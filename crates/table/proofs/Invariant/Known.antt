@@ -51,7 +51,7 @@ module _ (M : ℕ → Memory) where
   pub record InsertSays (r t a n v : ℕ) : Type 0 where
     pub if_true : v ≡ true_answer → BeenOn t n
     pub if_false : v ≡ false_answer → New t n × HeldSince r t a
-    pub if-fail : v ≡ fail_answer → New t n
+    pub if_fail : v ≡ fail_answer → New t n
 
   -- an insert's search, with its edge at w
   pub record Search (r t a n result b c w : ℕ) (recovering : Bool) : Type 0 where
@@ -68,26 +68,26 @@ module _ (M : ℕ → Memory) where
   StruckOrNew t n = (Marked (M t) n × BeenOn t n) ⊎ New t n
 
   pub data InsertAt (r t : ℕ) (R : Record) : Place → Type 0 where
-    insert-0 : (R.lost.recovering ≡ false → New t (own_in R)) → R.kept.result ≡ no_answer → InsertAt r t R p0
-    insert-1 : (w : ℕ) → InsertSearch r t R w → InsertAt r t R p1
-    insert-2 : (w : ℕ) → InsertSearch r t R w → link_in (M t) (curr_in R) ≡ marked_to (succ_in R) → InsertAt r t R p2
-    insert-3 : (w : ℕ) → InsertSearch r t R w → New t (own_in R) → asked_in R + 1 < rank_in (M w) (curr_in R) → InsertAt r t R p3
-    insert-4 : (w : ℕ) → InsertSearch r t R w → New t (own_in R) → asked_in R + 1 < rank_in (M w) (curr_in R)
+    insert_0 : (R.lost.recovering ≡ false → New t (own_in R)) → R.kept.result ≡ no_answer → InsertAt r t R p0
+    insert_1 : (w : ℕ) → InsertSearch r t R w → InsertAt r t R p1
+    insert_2 : (w : ℕ) → InsertSearch r t R w → link_in (M t) (curr_in R) ≡ marked_to (succ_in R) → InsertAt r t R p2
+    insert_3 : (w : ℕ) → InsertSearch r t R w → New t (own_in R) → asked_in R + 1 < rank_in (M w) (curr_in R) → InsertAt r t R p3
+    insert_4 : (w : ℕ) → InsertSearch r t R w → New t (own_in R) → asked_in R + 1 < rank_in (M w) (curr_in R)
         → link_in (M t) (own_in R) ≡ plain_to (curr_in R) → InsertAt r t R p4
-    insert-13 : R.lost.recovering ≡ true → InsertAt r t R p13
-    insert-14 : StruckOrNew t (own_in R) → InsertAt r t R p14
-    insert-18 : InsertSays r t (asked_in R) (own_in R) R.lost.pending → InsertAt r t R p18
-    insert-19 : InsertSays r t (asked_in R) (own_in R) R.lost.pending → InsertAt r t R p19
+    insert_13 : R.lost.recovering ≡ true → InsertAt r t R p13
+    insert_14 : StruckOrNew t (own_in R) → InsertAt r t R p14
+    insert_18 : InsertSays r t (asked_in R) (own_in R) R.lost.pending → InsertAt r t R p18
+    insert_19 : InsertSays r t (asked_in R) (own_in R) R.lost.pending → InsertAt r t R p19
 
   -- its node n is the one given out at its request
   pub record InsertKeeps (r t kind a n result : ℕ) : Type 0 where
-    pub kind-is : kind ≡ insert_kind
+    pub kind_is : kind ≡ insert_kind
     pub node : GivenAt M r t n
     pub named : rank_in (M t) n ≡ a + 1
     pub small : a + 1 < above_all
     pub own : BeenOn t n ⊎ New t n
     pub said : InsertSays r t a n result
-    pub no-fail : result ≢ fail_answer
+    pub no_fail : result ≢ fail_answer
 
   abbrev pub InsertKept : (r t : ℕ) → Kept → Type 0
   InsertKept r t k = InsertKeeps r t k.kind k.address.0 k.node.0 k.result
@@ -98,7 +98,7 @@ module _ (M : ℕ → Memory) where
   pub record DeleteSays (r t p a n v : ℕ) : Type 0 where
     pub if_true : v ≡ true_answer → SawHeld r t a n × (deleter_in (M t) n ≡ p + 1)
     pub if_false : v ≡ false_answer → ((n ≡ 0) ⊎ ((deleter_in (M t) n ≢ 0) × (deleter_in (M t) n ≢ p + 1))) × GoneSince r t a
-    pub if-fail : v ≡ fail_answer → (n ≡ 0) ⊎ (deleter_in (M t) n ≢ p + 1)
+    pub if_fail : v ≡ fail_answer → (n ≡ 0) ⊎ (deleter_in (M t) n ≢ p + 1)
 
   -- before place 5
   pub record Blank (n result : ℕ) (recovering : Bool) : Type 0 where
@@ -116,34 +116,34 @@ module _ (M : ℕ → Memory) where
   pub record Past (r t a n b c : ℕ) : Type 0 where
     pub node : n ≡ c
     pub saw : SawHeld r t a c
-    pub pred-on : BeenOn t b
+    pub pred_on : BeenOn t b
 
   abbrev pub DeletePast : (r t : ℕ) → Record → Type 0
   DeletePast r t R = Past r t (asked_in R) (own_in R) (pred_in R) (curr_in R)
 
   pub data DeleteAt (r t p : ℕ) (R : Record) : Place → Type 0 where
-    delete-0 : DeleteBlank R → DeleteAt r t p R p0
-    delete-1 : DeleteBlank R → (w : ℕ) → DeleteEdge r t R w → DeleteAt r t p R p1
-    delete-2 : DeleteBlank R → (w : ℕ) → DeleteEdge r t R w → link_in (M t) (curr_in R) ≡ marked_to (succ_in R) → DeleteAt r t p R p2
-    delete-5 : DeleteBlank R → SawHeld r t (asked_in R) (curr_in R) → BeenOn t (pred_in R) → DeleteAt r t p R p5
-    delete-6 : DeletePast r t R → DeleteAt r t p R p6
-    delete-7 : DeletePast r t R → Used (M t) (succ_in R) → DeleteAt r t p R p7
-    delete-8 : DeletePast r t R → link_in (M t) (curr_in R) ≡ marked_to (succ_in R) → DeleteAt r t p R p8
-    delete-9 : DeletePast r t R → Marked (M t) (curr_in R) → DeleteAt r t p R p9
-    delete-10 : DeletePast r t R → deleter_in (M t) (curr_in R) ≢ 0 → DeleteAt r t p R p10
-    delete-13 : DeleteAt r t p R p13
-    delete-15 : SawHeld r t (asked_in R) (own_in R) → DeleteAt r t p R p15
-    delete-16 : SawHeld r t (asked_in R) (own_in R) → Marked (M t) (own_in R) → DeleteAt r t p R p16
-    delete-17 : SawHeld r t (asked_in R) (own_in R) → deleter_in (M t) (own_in R) ≢ 0 → DeleteAt r t p R p17
-    delete-18 : DeleteSays r t p (asked_in R) (own_in R) R.lost.pending → DeleteAt r t p R p18
-    delete-19 : DeleteSays r t p (asked_in R) (own_in R) R.lost.pending → DeleteAt r t p R p19
+    delete_0 : DeleteBlank R → DeleteAt r t p R p0
+    delete_1 : DeleteBlank R → (w : ℕ) → DeleteEdge r t R w → DeleteAt r t p R p1
+    delete_2 : DeleteBlank R → (w : ℕ) → DeleteEdge r t R w → link_in (M t) (curr_in R) ≡ marked_to (succ_in R) → DeleteAt r t p R p2
+    delete_5 : DeleteBlank R → SawHeld r t (asked_in R) (curr_in R) → BeenOn t (pred_in R) → DeleteAt r t p R p5
+    delete_6 : DeletePast r t R → DeleteAt r t p R p6
+    delete_7 : DeletePast r t R → Used (M t) (succ_in R) → DeleteAt r t p R p7
+    delete_8 : DeletePast r t R → link_in (M t) (curr_in R) ≡ marked_to (succ_in R) → DeleteAt r t p R p8
+    delete_9 : DeletePast r t R → Marked (M t) (curr_in R) → DeleteAt r t p R p9
+    delete_10 : DeletePast r t R → deleter_in (M t) (curr_in R) ≢ 0 → DeleteAt r t p R p10
+    delete_13 : DeleteAt r t p R p13
+    delete_15 : SawHeld r t (asked_in R) (own_in R) → DeleteAt r t p R p15
+    delete_16 : SawHeld r t (asked_in R) (own_in R) → Marked (M t) (own_in R) → DeleteAt r t p R p16
+    delete_17 : SawHeld r t (asked_in R) (own_in R) → deleter_in (M t) (own_in R) ≢ 0 → DeleteAt r t p R p17
+    delete_18 : DeleteSays r t p (asked_in R) (own_in R) R.lost.pending → DeleteAt r t p R p18
+    delete_19 : DeleteSays r t p (asked_in R) (own_in R) R.lost.pending → DeleteAt r t p R p19
 
   pub record DeleteKeeps (r t p kind a n result : ℕ) : Type 0 where
-    pub kind-is : kind ≡ delete_kind
+    pub kind_is : kind ≡ delete_kind
     pub small : a + 1 < above_all
     pub saw : (n ≡ 0) ⊎ SawHeld r t a n
     pub said : DeleteSays r t p a n result
-    pub no-fail : result ≢ fail_answer
+    pub no_fail : result ≢ fail_answer
 
   abbrev pub DeleteKept : (r t p : ℕ) → Kept → Type 0
   DeleteKept r t p k = DeleteKeeps r t p k.kind k.address.0 k.node.0 k.result
@@ -160,13 +160,13 @@ module _ (M : ℕ → Memory) where
     pub on : On (M w) c
 
   pub data FindAt (r t : ℕ) (R : Record) : Place → Type 0 where
-    find-11 : (w : ℕ) → Walked r t (curr_in R) w → rank_in (M w) (curr_in R) < asked_in R + 1 → FindAt r t R p11
-    find-12 : (w : ℕ) → Walked r t (curr_in R) w → rank_in (M w) (curr_in R) ≡ asked_in R + 1 → FindAt r t R p12
-    find-13 : FindAt r t R p13
-    find-19 : FindSays r t (asked_in R) R.lost.pending → FindAt r t R p19
+    find_11 : (w : ℕ) → Walked r t (curr_in R) w → rank_in (M w) (curr_in R) < asked_in R + 1 → FindAt r t R p11
+    find_12 : (w : ℕ) → Walked r t (curr_in R) w → rank_in (M w) (curr_in R) ≡ asked_in R + 1 → FindAt r t R p12
+    find_13 : FindAt r t R p13
+    find_19 : FindSays r t (asked_in R) R.lost.pending → FindAt r t R p19
 
   pub record FindKeeps (kind a result : ℕ) : Type 0 where
-    pub kind-is : kind ≡ find_kind
+    pub kind_is : kind ≡ find_kind
     pub small : a + 1 < above_all
     pub blank : result ≡ no_answer
 
@@ -201,72 +201,72 @@ abbrev pub delete_node : Action → ℕ → ℕ
 delete_node x n = cond (eqb (kind_of x) delete_kind) n 0
 
 module _ {M : ℕ → Memory} {r t : ℕ} {R : Record} where
-  pub insert-known : {p : ℕ} {x : Action} → kind_of x ≡ insert_kind → KnownOf M r t p R x → InsertKnown M r t R
-  insert-known k (inserting o) = o
-  insert-known k (deleting o) = absurd (omega arith)
-  insert-known k (finding o) = absurd (omega arith)
+  pub insert_known : {p : ℕ} {x : Action} → kind_of x ≡ insert_kind → KnownOf M r t p R x → InsertKnown M r t R
+  insert_known k (inserting o) = o
+  insert_known k (deleting o) = absurd (omega arith)
+  insert_known k (finding o) = absurd (omega arith)
 
-  pub delete-known : {p : ℕ} {x : Action} → kind_of x ≡ delete_kind → KnownOf M r t p R x → DeleteKnown M r t p R
-  delete-known k (inserting o) = absurd (omega arith)
-  delete-known k (deleting o) = o
-  delete-known k (finding o) = absurd (omega arith)
+  pub delete_known : {p : ℕ} {x : Action} → kind_of x ≡ delete_kind → KnownOf M r t p R x → DeleteKnown M r t p R
+  delete_known k (inserting o) = absurd (omega arith)
+  delete_known k (deleting o) = o
+  delete_known k (finding o) = absurd (omega arith)
 
-  pub find-known : {p : ℕ} {x : Action} → kind_of x ≡ find_kind → KnownOf M r t p R x → FindKnown M r t R
-  find-known k (inserting o) = absurd (omega arith)
-  find-known k (deleting o) = absurd (omega arith)
-  find-known k (finding o) = o
+  pub find_known : {p : ℕ} {x : Action} → kind_of x ≡ find_kind → KnownOf M r t p R x → FindKnown M r t R
+  find_known k (inserting o) = absurd (omega arith)
+  find_known k (deleting o) = absurd (omega arith)
+  find_known k (finding o) = o
 
   -- at place 19: what the pending answer rests on
-  pub insert-says : place_of R.lost.place ≡ p19 → R.kept.status ≡ running_status → InsertKnown M r t R
+  pub insert_says : place_of R.lost.place ≡ p19 → R.kept.status ≡ running_status → InsertKnown M r t R
       → InsertSays M r t (asked_in R) (own_in R) R.lost.pending
-  insert-says pl st o = says (rw pl at (o.place st))
+  insert_says pl st o = says (rw pl at (o.place st))
     where
       says : InsertAt M r t R p19 → InsertSays M r t (asked_in R) (own_in R) R.lost.pending
-      says (insert-19 x) = x
+      says (insert_19 x) = x
 
-  pub delete-says : {p : ℕ} → place_of R.lost.place ≡ p19 → R.kept.status ≡ running_status → DeleteKnown M r t p R
+  pub delete_says : {p : ℕ} → place_of R.lost.place ≡ p19 → R.kept.status ≡ running_status → DeleteKnown M r t p R
       → DeleteSays M r t p (asked_in R) (own_in R) R.lost.pending
-  delete-says {p} pl st o = says (rw pl at (o.place st))
+  delete_says {p} pl st o = says (rw pl at (o.place st))
     where
       says : DeleteAt M r t p R p19 → DeleteSays M r t p (asked_in R) (own_in R) R.lost.pending
-      says (delete-19 x) = x
+      says (delete_19 x) = x
 
-  pub find-says : place_of R.lost.place ≡ p19 → R.kept.status ≡ running_status → FindKnown M r t R → FindSays M r t (asked_in R) R.lost.pending
-  find-says pl st o = says (rw pl at (o.place st))
+  pub find_says : place_of R.lost.place ≡ p19 → R.kept.status ≡ running_status → FindKnown M r t R → FindSays M r t (asked_in R) R.lost.pending
+  find_says pl st o = says (rw pl at (o.place st))
     where
       says : FindAt M r t R p19 → FindSays M r t (asked_in R) R.lost.pending
-      says (find-19 x) = x
+      says (find_19 x) = x
 
 -- ---- answers: what there is to be shown of each
 
 module _ {M : ℕ → Memory} where
-  pub insert-says-true : {r t a n : ℕ} → BeenOn M t n → InsertSays M r t a n true_answer
-  insert-says-true been = record { if_true = λ v. been; if_false = λ v. absurd (omega arith); if-fail = λ v. absurd (omega arith) }
+  pub insert_says_true : {r t a n : ℕ} → BeenOn M t n → InsertSays M r t a n true_answer
+  insert_says_true been = record { if_true = λ v. been; if_false = λ v. absurd (omega arith); if_fail = λ v. absurd (omega arith) }
 
-  pub insert-says-false : {r t a n : ℕ} → New M t n → HeldSince M r t a → InsertSays M r t a n false_answer
-  insert-says-false new held = record { if_true = λ v. absurd (omega arith); if_false = λ v. (new, held); if-fail = λ v. absurd (omega arith) }
+  pub insert_says_false : {r t a n : ℕ} → New M t n → HeldSince M r t a → InsertSays M r t a n false_answer
+  insert_says_false new held = record { if_true = λ v. absurd (omega arith); if_false = λ v. (new, held); if_fail = λ v. absurd (omega arith) }
 
-  pub insert-says-fail : {r t a n : ℕ} → New M t n → InsertSays M r t a n fail_answer
-  insert-says-fail new = record { if_true = λ v. absurd (omega arith); if_false = λ v. absurd (omega arith); if-fail = λ v. new }
+  pub insert_says_fail : {r t a n : ℕ} → New M t n → InsertSays M r t a n fail_answer
+  insert_says_fail new = record { if_true = λ v. absurd (omega arith); if_false = λ v. absurd (omega arith); if_fail = λ v. new }
 
-  pub insert-says-nothing : {r t a n : ℕ} → InsertSays M r t a n no_answer
-  insert-says-nothing = record { if_true = λ v. absurd (omega arith); if_false = λ v. absurd (omega arith); if-fail = λ v. absurd (omega arith) }
+  pub insert_says_nothing : {r t a n : ℕ} → InsertSays M r t a n no_answer
+  insert_says_nothing = record { if_true = λ v. absurd (omega arith); if_false = λ v. absurd (omega arith); if_fail = λ v. absurd (omega arith) }
 
-  pub delete-says-true : {r t p a n : ℕ} → SawHeld M r t a n → deleter_in (M t) n ≡ p + 1 → DeleteSays M r t p a n true_answer
-  delete-says-true saw mine = record { if_true = λ v. (saw, mine); if_false = λ v. absurd (omega arith); if-fail = λ v. absurd (omega arith) }
+  pub delete_says_true : {r t p a n : ℕ} → SawHeld M r t a n → deleter_in (M t) n ≡ p + 1 → DeleteSays M r t p a n true_answer
+  delete_says_true saw mine = record { if_true = λ v. (saw, mine); if_false = λ v. absurd (omega arith); if_fail = λ v. absurd (omega arith) }
 
-  pub delete-says-false : {r t p a n : ℕ} → (n ≡ 0) ⊎ ((deleter_in (M t) n ≢ 0) × (deleter_in (M t) n ≢ p + 1)) → GoneSince M r t a
+  pub delete_says_false : {r t p a n : ℕ} → (n ≡ 0) ⊎ ((deleter_in (M t) n ≢ 0) × (deleter_in (M t) n ≢ p + 1)) → GoneSince M r t a
       → DeleteSays M r t p a n false_answer
-  delete-says-false other gone = record { if_true = λ v. absurd (omega arith); if_false = λ v. (other, gone); if-fail = λ v. absurd (omega arith) }
+  delete_says_false other gone = record { if_true = λ v. absurd (omega arith); if_false = λ v. (other, gone); if_fail = λ v. absurd (omega arith) }
 
-  pub delete-says-fail : {r t p a n : ℕ} → (n ≡ 0) ⊎ (deleter_in (M t) n ≢ p + 1) → DeleteSays M r t p a n fail_answer
-  delete-says-fail other = record { if_true = λ v. absurd (omega arith); if_false = λ v. absurd (omega arith); if-fail = λ v. other }
+  pub delete_says_fail : {r t p a n : ℕ} → (n ≡ 0) ⊎ (deleter_in (M t) n ≢ p + 1) → DeleteSays M r t p a n fail_answer
+  delete_says_fail other = record { if_true = λ v. absurd (omega arith); if_false = λ v. absurd (omega arith); if_fail = λ v. other }
 
-  pub delete-says-nothing : {r t p a n : ℕ} → DeleteSays M r t p a n no_answer
-  delete-says-nothing = record { if_true = λ v. absurd (omega arith); if_false = λ v. absurd (omega arith); if-fail = λ v. absurd (omega arith) }
+  pub delete_says_nothing : {r t p a n : ℕ} → DeleteSays M r t p a n no_answer
+  delete_says_nothing = record { if_true = λ v. absurd (omega arith); if_false = λ v. absurd (omega arith); if_fail = λ v. absurd (omega arith) }
 
-  pub find-says-true : {r t a : ℕ} → HeldSince M r t a → FindSays M r t a true_answer
-  find-says-true held = record { if_true = λ v. held; if_false = λ v. absurd (omega arith) }
+  pub find_says_true : {r t a : ℕ} → HeldSince M r t a → FindSays M r t a true_answer
+  find_says_true held = record { if_true = λ v. held; if_false = λ v. absurd (omega arith) }
 
-  pub find-says-false : {r t a : ℕ} → GoneSince M r t a → FindSays M r t a false_answer
-  find-says-false gone = record { if_true = λ v. absurd (omega arith); if_false = λ v. gone }
+  pub find_says_false : {r t a : ℕ} → GoneSince M r t a → FindSays M r t a false_answer
+  find_says_false gone = record { if_true = λ v. absurd (omega arith); if_false = λ v. gone }

@@ -46,8 +46,8 @@ module _ {M : ℕ → Memory} where
   pub shorter : {T : ℕ} → Course M T → (t : ℕ) → t ≤ T → Course M t
   shorter H t h = record { orderly = λ s l. H.orderly s (omega arith); keeps = λ s l. H.keeps s (omega arith) }
 
-  pub course-onward : {T : ℕ} → Course M T → Orderly (M (suc T)) → Keeps (M T) (M (suc T)) → Course M (suc T)
-  course-onward {T} H i k = record {
+  pub course_onward : {T : ℕ} → Course M T → Orderly (M (suc T)) → Keeps (M T) (M (suc T)) → Course M (suc T)
+  course_onward {T} H i k = record {
     orderly = λ t l. elim (ℕ_discrete t (suc T)) [ yes q ↦ rw q i | no q ↦ H.orderly t (omega arith) ];
     keeps = λ t l. elim (ℕ_discrete t T) [ yes q ↦ rw q k | no q ↦ H.keeps t (omega arith) ];
   }
@@ -94,48 +94,48 @@ module _ (m : Memory) where
   held n a o e k s = let h = inner n a k s in
       (node n, held_node (record { on = o; inner = h; plain = e; named = omega (arith, rank_inner m n h) }))
 
-  pub rank-held : (a n : ℕ) → Holder m a n → rank_in m n ≡ a + 1
-  rank-held a n h = omega (arith, rank_inner m n h.inner, h.named)
+  pub rank_held : (a n : ℕ) → Holder m a n → rank_in m n ≡ a + 1
+  rank_held a n h = omega (arith, rank_inner m n h.inner, h.named)
 
 module _ {m : Memory} (i : Orderly m) where
   -- no address is held between a node and its next
   pub between : (b a : ℕ) → On m b → rank_in m b < a + 1 → a + 1 < rank_in m (follows_in m b) → HeldIn m a → ⊥
-  between b a o l g h = let z = held_number h.1 in let k = rank-held m a h.0.0 z in
+  between b a o l g h = let z = held_number h.1 in let k = rank_held m a h.0.0 z in
       elim (gap (follows_in m) (rank_in m) i.rise o z.on) [ inl q ↦ omega arith | inr q ↦ omega arith ]
 
   -- an unmarked node on the chain has no deleter
-  pub plain-unsigned : (n : ℕ) → On m n → Plain m n → deleter_in m n ≡ 0
-  plain-unsigned n o e = elim (ℕ_discrete (deleter_in m n) 0) [ yes z ↦ z | no z ↦ absurd (omega (arith, i.signed n o z)) ]
+  pub plain_unsigned : (n : ℕ) → On m n → Plain m n → deleter_in m n ≡ 0
+  plain_unsigned n o e = elim (ℕ_discrete (deleter_in m n) 0) [ yes z ↦ z | no z ↦ absurd (omega (arith, i.signed n o z)) ]
 
   -- the address of a struck node that is still on the chain is not held
-  pub struck-gone : (n a : ℕ) → On m n → Marked m n → rank_in m n ≡ a + 1 → HeldIn m a → ⊥
-  struck-gone n a o s k h =
+  pub struck_gone : (n a : ℕ) → On m n → Marked m n → rank_in m n ≡ a + 1 → HeldIn m a → ⊥
+  struck_gone n a o s k h =
       let z = held_number h.1 in
-      let q : n ≡ h.0.0 = once (follows_in m) (rank_in m) i.rise o z.on (omega (arith, rank-held m a h.0.0 z)) in
+      let q : n ≡ h.0.0 = once (follows_in m) (rank_in m) i.rise o z.on (omega (arith, rank_held m a h.0.0 z)) in
       omega (arith, ap (link_in m) q, z.plain)
 
 -- ---- from then to now
 
 module _ {M : ℕ → Memory} {t : ℕ} (H : Course M t) (w : ℕ) (le : w ≤ t) {b : ℕ} (o : On (M w) b) where
-  pub onNow : Plain (M t) b → On (M t) b
-  onNow e = elim ((later H w le).stays b o) [ inl r ↦ r | inr s ↦ absurd (omega arith) ]
+  pub on_now : Plain (M t) b → On (M t) b
+  on_now e = elim ((later H w le).stays b o) [ inl r ↦ r | inr s ↦ absurd (omega arith) ]
 
-  pub usedNow : Used (M t) b
-  usedNow = (later H w le).used b ((H.orderly w le).used b o)
+  pub used_now : Used (M t) b
+  used_now = (later H w le).used b ((H.orderly w le).used b o)
 
-  pub rankNow : rank_in (M t) b ≡ rank_in (M w) b
-  rankNow = (later H w le).ranks b ((H.orderly w le).used b o)
+  pub rank_now : rank_in (M t) b ≡ rank_in (M w) b
+  rank_now = (later H w le).ranks b ((H.orderly w le).used b o)
 
   -- a deleter stands only on a marked node
-  pub signedNow : deleter_in (M t) b ≢ 0 → Marked (M t) b
-  signedNow d = elim ((later H w le).stays b o) [ inl r ↦ (H.orderly t (omega arith)).signed b r d | inr s ↦ s ]
+  pub signed_now : deleter_in (M t) b ≢ 0 → Marked (M t) b
+  signed_now d = elim ((later H w le).stays b o) [ inl r ↦ (H.orderly t (omega arith)).signed b r d | inr s ↦ s ]
 
 -- the node to which one that was on the chain leads now is in use
 pub target_now : {M : ℕ → Memory} {t : ℕ} (H : Course M t) (w : ℕ) → w ≤ t → {b : ℕ} → On (M w) b → Used (M t) (follows_in (M t) b)
 target_now {M = M} {t} H w le {b} o = elim (ℕ_discrete b 1) [
   | yes q ↦ let i = H.orderly t (omega arith) in
       let tail : follows_in (M t) b ≡ 1 = omega (arith, ap (link_in (M t)) q, i.tail) in rw tail (tail_in_use i.room)
-  | no q ↦ let z = hindsight H w le o in usedNow H z.0 z.2 (further z.3 q (ap (λ x. x / 2) z.4))
+  | no q ↦ let z = hindsight H w le o in used_now H z.0 z.2 (further z.3 q (ap (λ x. x / 2) z.4))
 ]
 
 -- n was given out at event r, and is in use at t
@@ -187,10 +187,10 @@ gone_since {M = M} {t} H w le {n} a o e k s = (suc z.0, omega (arith, z.1), z.2,
     z = begins_between (λ s. Marked (M s) n) (λ s. marked_or_not (M s) n) w t le (λ q. absurd (omega arith)) s
 
     was : On (M z.0) n
-    was = onNow (shorter H z.0 (omega (arith, z.2))) w z.1 o (omega (arith, z.3.0))
+    was = on_now (shorter H z.0 (omega (arith, z.2))) w z.1 o (omega (arith, z.3.0))
 
     gone : HeldIn (M (suc z.0)) a → ⊥
     gone = elim ((H.keeps z.0 z.2).stays n was) [
-      | inl r ↦ struck-gone (H.orderly (suc z.0) z.2) n a r z.3.1 (rankNow (shorter H (suc z.0) z.2) w (omega (arith, z.1)) o ∙ k)
+      | inl r ↦ struck_gone (H.orderly (suc z.0) z.2) n a r z.3.1 (rank_now (shorter H (suc z.0) z.2) w (omega (arith, z.1)) o ∙ k)
       | inr r ↦ absurd (z.3.0 r.0)
     ]

@@ -7,15 +7,15 @@ use Rattle.table.proofs.Common.{answer_at}
 use Rattle.basics.proofs.Tests.{none_or_some}
 use Rattle.table.proofs.Laws.Meets.{Alone, deletes, finds, stops, restarts}
 use Rattle.table.proofs.Laws.Numbered.{own_in}
-use Rattle.table.proofs.Laws.Ranges.{pending-in-range, pending-19}
+use Rattle.table.proofs.Laws.Ranges.{pending_in_range, pending_19}
 use Rattle.table.proofs.Invariant.Effects.{Orderly}
 use Rattle.table.proofs.Invariant.Moments.{Course}
 use Rattle.table.proofs.Invariant.KnownWrites.{goes_at, writes_at, says_at}
 use Rattle.table.proofs.Invariant.EventCases.{record_at, Able, Happens, refuses, inserts, steps, alone, happens}
 use Rattle.table.proofs.Invariant.GoingOn.{goes_on}
-use Rattle.table.proofs.Invariant.Played.{Played, state_at, memory_at, record_then, process_at, IsOperation, answer_to, hands, answer-stays}
-use Rattle.table.proofs.Invariant.Played.{answer-later, answer-else, answer-quiet, answer-now, answer-early}
-use Rattle.table.proofs.Invariant.RunInvariant.{Busy, Invariant, next-is, handed-is, memory-is, Becomes, record_is, records-else, orderly-at}
+use Rattle.table.proofs.Invariant.Played.{Played, state_at, memory_at, record_then, process_at, IsOperation, answer_to, hands, answer_stays}
+use Rattle.table.proofs.Invariant.Played.{answer_later_lem, answer_else, answer_quiet, answer_now, answer_early}
+use Rattle.table.proofs.Invariant.RunInvariant.{Busy, Invariant, next_is, handed_is, memory_is, Becomes, record_is, records_else, orderly_at}
 use Rattle.table.proofs.Invariant.RunInvariant.{invariant}
 
 module _ (ρ : Played) where
@@ -36,20 +36,20 @@ module _ (ρ : Played) where
   course t = (invariant ρ t).course
 
   pub orderly : (t : ℕ) → Orderly (M t)
-  orderly t = orderly-at ρ t (invariant ρ t)
+  orderly t = orderly_at ρ t (invariant ρ t)
 
   -- an open operation is what its process works on
-  pub busy-of : (t r : ℕ) → IsOperation ρ r → r < t → answer_to ρ t r ≡ none → Busy ρ t (process_at ρ r) r
-  busy-of t r is-operation l h = elim ((invariant ρ t).process (process_at ρ r)) [
+  pub busy_of : (t r : ℕ) → IsOperation ρ r → r < t → answer_to ρ t r ≡ none → Busy ρ t (process_at ρ r) r
+  busy_of t r is-operation l h = elim ((invariant ρ t).process (process_at ρ r)) [
     | inl x ↦ absurd (x.done r is-operation l refl h)
     | inr w ↦ subst (λ z. Busy ρ t (process_at ρ r) z) (sym (w.busy.only r is-operation l refl h)) w.busy
   ]
 
-  pub status-of : (t p r : ℕ) → Busy ρ t p r → (R t p).kept.status ≢ idle_status
-  status-of t p r b = elim ((invariant ρ t).process p) [ inl x ↦ absurd (x.done r b.is b.before b.by b.opened) | inr w ↦ w.status ]
+  pub status_of : (t p r : ℕ) → Busy ρ t p r → (R t p).kept.status ≢ idle_status
+  status_of t p r b = elim ((invariant ρ t).process p) [ inl x ↦ absurd (x.done r b.is b.before b.by b.opened) | inr w ↦ w.status ]
 
-  still-busy : (t p r : ℕ) → Busy ρ t p r → answer_to ρ (suc t) r ≡ none → Busy ρ (suc t) p r
-  still-busy t p r b h = rw b.by at (busy-of (suc t) r b.is (omega (arith, b.before)) h)
+  still_busy : (t p r : ℕ) → Busy ρ t p r → answer_to ρ (suc t) r ≡ none → Busy ρ (suc t) p r
+  still_busy t p r b h = rw b.by at (busy_of (suc t) r b.is (omega (arith, b.before)) h)
 
   -- ---- what event t does to an open operation r of p
 
@@ -85,17 +85,17 @@ module _ (ρ : Played) where
 
     -- an event that is no answer
     still_open : hands ρ t ≡ none → Busy ρ (suc t) p r
-    still_open h = still-busy t p r b (answer-quiet ρ t r h ∙ b.opened)
+    still_open h = still_busy t p r b (answer_quiet ρ t r h ∙ b.opened)
 
     -- another process's event
     elsewhere : {m : Memory} (Q : Record) {o : Outcome} → Becomes ρ t m Q o → p ≢ P t → Turns t p r
-    elsewhere Q left ne = untouched (records-else ρ t Q left p ne) (inl (λ z. ne (sym z)))
-        (still-busy t p r b (answer-else ρ t r (λ z. ne (sym b.by ∙ z)) ∙ b.opened))
+    elsewhere Q left ne = untouched (records_else ρ t Q left p ne) (inl (λ z. ne (sym z)))
+        (still_busy t p r b (answer_else ρ t r (λ z. ne (sym b.by ∙ z)) ∙ b.opened))
 
-    after-step : Able (S t) (P t) running_status → in_range (R t (P t)) ≡ true → (l : Place) → place_of (R t (P t)).lost.place ≡ l
+    after_step : Able (S t) (P t) running_status → in_range (R t (P t)) ≡ true → (l : Place) → place_of (R t (P t)).lost.place ≡ l
         → Becomes ρ t (written (writes_at l (M t) (P t) (R t (P t))) (M t)) (goes_at l (M t) (P t) (R t (P t))) (says_at l (M t) (P t) (R t (P t)))
         → Turns t p r
-    after-step a ok l pl left = elim (ℕ_discrete p (P t)) [ yes z ↦ rw z (mine z) | no z ↦ elsewhere _ left z ]
+    after_step a ok l pl left = elim (ℕ_discrete p (P t)) [ yes z ↦ rw z (mine z) | no z ↦ elsewhere _ left z ]
       where
         is : R (suc t) (P t) ≡ goes_at l (M t) (P t) (R t (P t))
         is = record_is ρ t _ left a.in_row
@@ -106,8 +106,8 @@ module _ (ρ : Played) where
             place = pl ∙ g.place;
             status = a.has;
             in_range_lem = ok;
-            memory = memory-is ρ t left ∙ ap (λ w. written w (M t)) g.writes ∙ unfold written in refl;
-            says = answer-now ρ t r b.before (b.by ∙ z) b.opened ∙ handed-is ρ t left ∙ ap (answer_at t) g.says;
+            memory = memory_is ρ t left ∙ ap (λ w. written w (M t)) g.writes ∙ unfold written in refl;
+            says = answer_now ρ t r b.before (b.by ∙ z) b.opened ∙ handed_is ρ t left ∙ ap (answer_at t) g.says;
           })
           | inr g ↦ moves l (record {
             place = pl;
@@ -115,16 +115,16 @@ module _ (ρ : Played) where
             in_range_lem = ok;
             by = refl;
             becomes = is;
-            memory = memory-is ρ t left;
+            memory = memory_is ρ t left;
             node = λ h. ap (λ x. x.kept.node.0) is ∙ g.node h;
-            busy = rw z at (still_open (handed-is ρ t left ∙ ap (answer_at t) g.says));
+            busy = rw z at (still_open (handed_is ρ t left ∙ ap (answer_at t) g.says));
           })
         ]
 
     -- a request is another process's
-    after-request : {m : Memory} (Q : Record) → Able (S t) (P t) idle_status → Becomes ρ t m Q Accepted → Turns t p r
-    after-request Q a left = elim (ℕ_discrete p (P t)) [
-      | yes z ↦ absurd (status-of t p r b (ap (λ x. (R t x).kept.status) z ∙ a.has))
+    after_request : {m : Memory} (Q : Record) → Able (S t) (P t) idle_status → Becomes ρ t m Q Accepted → Turns t p r
+    after_request Q a left = elim (ℕ_discrete p (P t)) [
+      | yes z ↦ absurd (status_of t p r b (ap (λ x. (R t x).kept.status) z ∙ a.has))
       | no z ↦ elsewhere Q left z
     ]
 
@@ -132,25 +132,25 @@ module _ (ρ : Played) where
     after_turn : (s : ℕ) (change : Record → Record) → Able (S t) (P t) s → Becomes ρ t (M t) (change (R t (P t))) Accepted
         → (R (suc t) p ≡ change (R t p) → Busy ρ (suc t) p r → Turns t p r) → Turns t p r
     after_turn s change a left f = elim (ℕ_discrete p (P t)) [
-      | yes z ↦ f (rw z (record_is ρ t _ left a.in_row)) (still_open (handed-is ρ t left))
+      | yes z ↦ f (rw z (record_is ρ t _ left a.in_row)) (still_open (handed_is ρ t left))
       | no z ↦ elsewhere _ left z
     ]
 
-    after-alone : (x : Action) (Q : Record) → Able (S t) (P t) (status_needed x) → Becomes ρ t (M t) Q Accepted → Alone (R t (P t)) x Q → Turns t p r
-    after-alone x Q a left deletes = after-request Q a left
-    after-alone x Q a left finds = after-request Q a left
-    after-alone x Q a left stops = after_turn running_status went_down a left stopped
-    after-alone x Q a left restarts = after_turn down_status restarted a left started
+    after_alone : (x : Action) (Q : Record) → Able (S t) (P t) (status_needed x) → Becomes ρ t (M t) Q Accepted → Alone (R t (P t)) x Q → Turns t p r
+    after_alone x Q a left deletes = after_request Q a left
+    after_alone x Q a left finds = after_request Q a left
+    after_alone x Q a left stops = after_turn running_status went_down a left stopped
+    after_alone x Q a left restarts = after_turn down_status restarted a left started
 
     pub turns : Turns t p r
-    turns = by-case (event (S t) (ρ.events t)) refl (happens (S t) (ρ.events t))
+    turns = by_case (event (S t) (ρ.events t)) refl (happens (S t) (ρ.events t))
       where
-        by-case : (d : Leaves) → event (S t) (ρ.events t) ≡ d → Happens (S t) (ρ.events t) d → Turns t p r
-        by-case d left (refuses k) = untouched (ap (λ z. record_at z p) (next-is ρ t left)) (inr (memory-is ρ t left))
-            (still_open (handed-is ρ t left))
-        by-case d left (inserts x is a spare) = after-request _ a left
-        by-case d left (steps is a ok l pl) = after-step a ok l pl left
-        by-case d left (alone Q a z) = after-alone (ρ.events t).action Q a left z
+        by_case : (d : Leaves) → event (S t) (ρ.events t) ≡ d → Happens (S t) (ρ.events t) d → Turns t p r
+        by_case d left (refuses k) = untouched (ap (λ z. record_at z p) (next_is ρ t left)) (inr (memory_is ρ t left))
+            (still_open (handed_is ρ t left))
+        by_case d left (inserts x is a spare) = after_request _ a left
+        by_case d left (steps is a ok l pl) = after_step a ok l pl left
+        by_case d left (alone Q a z) = after_alone (ρ.events t).action Q a left z
 
   -- ---- how an operation is answered
 
@@ -164,15 +164,15 @@ module _ (ρ : Played) where
     pub said : answer_to ρ (suc a.time) r ≡ some a
 
   pub answered : (T r : ℕ) (a : Answer) → IsOperation ρ r → answer_to ρ T r ≡ some a → AnsweredAt r a × (a.time < T)
-  answered zero r a is-operation h = absurd (some-ne-none a (sym h ∙ answer-early ρ 0 r (omega arith)))
+  answered zero r a is-operation h = absurd (some-ne-none a (sym h ∙ answer_early ρ 0 r (omega arith)))
   answered (suc t) r a is-operation h = elim (none_or_some (answer_to ρ t r)) [
     | inr z ↦
-        let q : z.0 ≡ a = some-injective z.0 a (sym (answer-stays ρ t r z.0 z.1) ∙ h) in
+        let q : z.0 ≡ a = some-injective z.0 a (sym (answer_stays ρ t r z.0 z.1) ∙ h) in
         let x = answered t r z.0 is-operation z.1 in
         (rw q at x.0, omega (arith, x.1, ap (λ v. v.time) q))
     | inl z ↦ elim (dec_lt r t) [
-      | yes l ↦ now (busy-of t r is-operation l z) (turns t (process_at ρ r) r (busy-of t r is-operation l z))
-      | no l ↦ absurd (some-ne-none a (sym h ∙ answer-early ρ (suc t) r (omega arith)))
+      | yes l ↦ now (busy_of t r is-operation l z) (turns t (process_at ρ r) r (busy_of t r is-operation l z))
+      | no l ↦ absurd (some-ne-none a (sym h ∙ answer_early ρ (suc t) r (omega arith)))
     ]
   ]
     where
@@ -198,22 +198,22 @@ module _ (ρ : Played) where
       )
 
   -- an operation that is open at t is answered at t or later
-  pub open-till : (t T p r : ℕ) (a : Answer) → Busy ρ t p r → answer_to ρ T r ≡ some a → t ≤ a.time
-  open-till t T p r a b h = elim (dec_le t a.time) [
+  pub open_till : (t T p r : ℕ) (a : Answer) → Busy ρ t p r → answer_to ρ T r ≡ some a → t ≤ a.time
+  open_till t T p r a b h = elim (dec_le t a.time) [
     | yes l ↦ l
-    | no l ↦ absurd (some-ne-none a (sym (answer-later ρ (suc a.time) t r a (omega arith) x.0.said) ∙ b.opened))
+    | no l ↦ absurd (some-ne-none a (sym (answer_later_lem ρ (suc a.time) t r a (omega arith) x.0.said) ∙ b.opened))
   ]
     where
       x : AnsweredAt r a × (a.time < T)
       x = answered T r a b.is h
 
   -- an answer is true where it is neither false nor fail
-  pub value-true : (r : ℕ) (a : Answer) → AnsweredAt r a → a.value ≢ false_answer → a.value ≢ fail_answer → a.value ≡ true_answer
-  value-true r a x n1 n3 = omega (
+  pub value_true : (r : ℕ) (a : Answer) → AnsweredAt r a → a.value ≢ false_answer → a.value ≢ fail_answer → a.value ≡ true_answer
+  value_true r a x n1 n3 = omega (
     arith,
     x.value,
-    pending-19 (R a.time (process_at ρ r)) x.in_range_lem x.place,
-    pending-in-range (R a.time (process_at ρ r)) x.in_range_lem,
+    pending_19 (R a.time (process_at ρ r)) x.in_range_lem x.place,
+    pending_in_range (R a.time (process_at ρ r)) x.in_range_lem,
     n1,
     n3,
   )

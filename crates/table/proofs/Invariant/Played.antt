@@ -78,26 +78,26 @@ cond_same true o = refl
 cond_same false o = refl
 
 module _ (ρ : Played) where
-  pub answer-stays : (t r : ℕ) (a : Answer) → answer_to ρ t r ≡ some a → answer_to ρ (suc t) r ≡ some a
+  pub answer_stays : (t r : ℕ) (a : Answer) → answer_to ρ t r ≡ some a → answer_to ρ (suc t) r ≡ some a
   unfolding answer
-  answer-stays t r a h = rw h
+  answer_stays t r a h = rw h
 
-  pub answer-later : (s t r : ℕ) (a : Answer) → s ≤ t → answer_to ρ s r ≡ some a → answer_to ρ t r ≡ some a
-  answer-later s t r a h q = le_ind (λ x. answer_to ρ x r ≡ some a) q (λ x l z. answer-stays x r a z) t h
+  pub answer_later_lem : (s t r : ℕ) (a : Answer) → s ≤ t → answer_to ρ s r ≡ some a → answer_to ρ t r ≡ some a
+  answer_later_lem s t r a h q = le_ind (λ x. answer_to ρ x r ≡ some a) q (λ x l z. answer_stays x r a z) t h
 
   -- another process's event
-  pub answer-else : (t r : ℕ) → process_at ρ r ≢ process_at ρ t → answer_to ρ (suc t) r ≡ answer_to ρ t r
+  pub answer_else : (t r : ℕ) → process_at ρ r ≢ process_at ρ t → answer_to ρ (suc t) r ≡ answer_to ρ t r
   unfolding answer
-  answer-else t r h = rw (ne_eqb (process_at ρ t) (process_at ρ r) (λ q. h (sym q))) (simp (cond_same, first_none))
+  answer_else t r h = rw (ne_eqb (process_at ρ t) (process_at ρ r) (λ q. h (sym q))) (simp (cond_same, first_none))
 
   -- an event that hands out nothing
-  pub answer-quiet : (t r : ℕ) → hands ρ t ≡ none → answer_to ρ (suc t) r ≡ answer_to ρ t r
+  pub answer_quiet : (t r : ℕ) → hands ρ t ≡ none → answer_to ρ (suc t) r ≡ answer_to ρ t r
   unfolding answer
-  answer-quiet t r h = rw h (simp (cond_same, first_none))
+  answer_quiet t r h = rw h (simp (cond_same, first_none))
 
-  pub answer-now : (t r : ℕ) → r < t → process_at ρ r ≡ process_at ρ t → answer_to ρ t r ≡ none → answer_to ρ (suc t) r ≡ hands ρ t
+  pub answer_now : (t r : ℕ) → r < t → process_at ρ r ≡ process_at ρ t → answer_to ρ t r ≡ none → answer_to ρ (suc t) r ≡ hands ρ t
   unfolding answer
-  answer-now t r l q h = rw (h, lt-ltb r t l, eq-eqb (process_at ρ t) (process_at ρ r) (sym q))
+  answer_now t r l q h = rw (h, lt-ltb r t l, eq-eqb (process_at ρ t) (process_at ρ r) (sym q))
 
-  pub answer-early : (t r : ℕ) → t ≤ suc r → answer_to ρ t r ≡ none
-  answer-early = no_answer_yet ρ.start ρ.events
+  pub answer_early : (t r : ℕ) → t ≤ suc r → answer_to ρ t r ≡ none
+  answer_early = no_answer_yet ρ.start ρ.events

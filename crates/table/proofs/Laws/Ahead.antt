@@ -9,7 +9,7 @@ use native.Mathlib.Omega.{arith}
 use native.Mathlib.Decide.{ℕ_discrete}
 use lib.Dec.{ltb, eqb}
 use borrow.Author.Tests.{eq-eqb, ne_eqb, lt-ltb, le-ltb, ltb-true, eqb-false}
-use Rattle.basics.proofs.Tests.{if-lt}
+use Rattle.basics.proofs.Tests.{if_lt}
 use Rattle.record.specs.Record.{node, tail_node}
 use Rattle.record.specs.declared.Node.{Node}
 use Rattle.table.specs.Words.{Memory, in_use, rank}
@@ -37,9 +37,9 @@ abbrev pub walk_on : ℕ → Memory → Ahead → List Node
 walk_on k m x = elim x [ onto y ↦ y ∷ walk k m y | tail_ahead ↦ [] | not_in_use ↦ [] | not_above ↦ [] ]
 
 module _ (m : Memory) (n : Node) where
-  pub goes-onward : Onward m n (follows m n) → ahead m n ≡ onto (follows m n)
+  pub goes_onward : Onward m n (follows m n) → ahead m n ≡ onto (follows m n)
   unfolding ahead
-  goes-onward o = rw (
+  goes_onward o = rw (
     ne_eqb (follows m n).0 tail_node.0 (λ q. o.not_tail (ap node q)),
     o.used,
     lt-ltb (rank m.addresses n) (rank m.addresses (follows m n)) o.above,
@@ -61,23 +61,23 @@ module _ (m : Memory) (n : Node) where
         above = ltb-true _ _ a;
       })
 
-  pub ahead-onto : (y : Node) → ahead m n ≡ onto y → Onward m n y
+  pub ahead_onto : (y : Node) → ahead m n ≡ onto y → Onward m n y
   unfolding ahead
-  ahead-onto y e = all_tell y (eqb (follows m n).0 tail_node.0) _ _ refl refl refl e
+  ahead_onto y e = all_tell y (eqb (follows m n).0 tail_node.0) _ _ refl refl refl e
 
-  pub walk-onward : (k : ℕ) (y : Node) → ahead m n ≡ onto y → walk (suc k) m n ≡ y ∷ walk k m y
+  pub walk_onward : (k : ℕ) (y : Node) → ahead m n ≡ onto y → walk (suc k) m n ≡ y ∷ walk k m y
   unfolding walk
-  walk-onward k y q = ap (walk_on k m) q
+  walk_onward k y q = ap (walk_on k m) q
 
   -- before tail it stops
-  pub meets-tail : follows m n ≡ tail_node → ahead m n ≡ tail_ahead
+  pub meets_tail : follows m n ≡ tail_node → ahead m n ≡ tail_ahead
   unfolding ahead
-  meets-tail q = rw (eq-eqb (follows m n).0 tail_node.0 (ap (λ k. k.0) q)) refl
+  meets_tail q = rw (eq-eqb (follows m n).0 tail_node.0 (ap (λ k. k.0) q)) refl
 
-  pub walk-ended : ahead m n ≡ tail_ahead → (k : ℕ) → walk k m n ≡ []
+  pub walk_ended : ahead m n ≡ tail_ahead → (k : ℕ) → walk k m n ≡ []
   unfolding walk
-  walk-ended q zero = refl
-  walk-ended q (suc k) = ap (walk_on k m) q
+  walk_ended q zero = refl
+  walk_ended q (suc k) = ap (walk_on k m) q
 
 -- ---- the walk ends by itself: of the nodes in use, fewer sort above each node that it goes on to
 
@@ -92,29 +92,29 @@ higher addresses r (suc c) = sorts_above addresses r c + higher addresses r c
 higher_most : (addresses : List ℕ) (r c : ℕ) → higher addresses r c ≤ c
 higher_most addresses r zero = omega arith
 higher_most addresses r (suc c) =
-    if-lt (λ k. k + higher addresses r c ≤ suc c) r (rank addresses (node c))
+    if_lt (λ k. k + higher addresses r c ≤ suc c) r (rank addresses (node c))
     (λ _. omega (arith, higher_most addresses r c)) (λ _. omega (arith, higher_most addresses r c))
 
 -- above a higher rank no more do, and fewer where a node lies between
 module _ (addresses : List ℕ) (r s : ℕ) (up : r ≤ s) where
-  above-falls : (c : ℕ) → sorts_above addresses s c ≤ sorts_above addresses r c
-  above-falls c =
-      if-lt (λ k. k ≤ sorts_above addresses r c) s (rank addresses (node c))
+  above_falls : (c : ℕ) → sorts_above addresses s c ≤ sorts_above addresses r c
+  above_falls c =
+      if_lt (λ k. k ≤ sorts_above addresses r c) s (rank addresses (node c))
       (λ l. rw (lt-ltb r (rank addresses (node c)) (omega arith)) (omega arith)) (λ _. omega arith)
 
-  higher-falls : (c : ℕ) → higher addresses s c ≤ higher addresses r c
-  higher-falls zero = omega arith
-  higher-falls (suc c) = omega (arith, above-falls c, higher-falls c)
+  higher_falls : (c : ℕ) → higher addresses s c ≤ higher addresses r c
+  higher_falls zero = omega arith
+  higher_falls (suc c) = omega (arith, above_falls c, higher_falls c)
 
-  fewer-higher : (x c : ℕ) → x < c → r < rank addresses (node x) → rank addresses (node x) ≤ s → higher addresses s c < higher addresses r c
-  fewer-higher x zero l above most = absurd (omega arith)
-  fewer-higher x (suc c) l above most = elim (ℕ_discrete x c) [
+  fewer_higher : (x c : ℕ) → x < c → r < rank addresses (node x) → rank addresses (node x) ≤ s → higher addresses s c < higher addresses r c
+  fewer_higher x zero l above most = absurd (omega arith)
+  fewer_higher x (suc c) l above most = elim (ℕ_discrete x c) [
     | yes q ↦
         let same : rank addresses (node x) ≡ rank addresses (node c) = ap (λ k. rank addresses (node k)) q in
         let counts : sorts_above addresses r c ≡ 1 = rw (lt-ltb r (rank addresses (node c)) (omega arith)) in
-        let not-now : sorts_above addresses s c ≡ 0 = rw (le-ltb s (rank addresses (node c)) (omega arith)) in
-        omega (arith, higher-falls c)
-    | no q ↦ omega (arith, above-falls c, fewer-higher x c (omega arith) above most)
+        let not_now : sorts_above addresses s c ≡ 0 = rw (le-ltb s (rank addresses (node c)) (omega arith)) in
+        omega (arith, higher_falls c)
+    | no q ↦ omega (arith, above_falls c, fewer_higher x c (omega arith) above most)
   ]
 
 -- how many nodes in use sort above n
@@ -123,8 +123,8 @@ to_pass m n = higher m.addresses (rank m.addresses n) m.count
 
 fewer_to_pass : (m : Memory) (n y : Node) → ahead m n ≡ onto y → to_pass m y < to_pass m n
 fewer_to_pass m n y on =
-    let goes = ahead-onto m n y on in
-    fewer-higher m.addresses (rank m.addresses n) (rank m.addresses y) (omega (arith, goes.above)) y.0 m.count
+    let goes = ahead_onto m n y on in
+    fewer_higher m.addresses (rank m.addresses n) (rank m.addresses y) (omega (arith, goes.above)) y.0 m.count
     (used_below m y goes.used) goes.above (omega arith)
 
 enough : (k steps : ℕ) (m : Memory) (n : Node) → to_pass m n ≤ k → k ≤ steps → walk steps m n ≡ walk k m n
@@ -139,10 +139,10 @@ enough (suc k) (suc j) m n few more =
 
 module _ (m : Memory) (n : Node) where
   -- more steps than the walk is given change nothing
-  pub walk-ends-by-itself : (steps : ℕ) → m.count ≤ steps → walk steps m n ≡ nodes_after m n
-  walk-ends-by-itself steps more = enough m.count steps m n (higher_most m.addresses (rank m.addresses n) m.count) more
+  pub walk_ends_by_itself : (steps : ℕ) → m.count ≤ steps → walk steps m n ≡ nodes_after m n
+  walk_ends_by_itself steps more = enough m.count steps m n (higher_most m.addresses (rank m.addresses n) m.count) more
 
   -- so it goes on from node to node without counting steps
-  pub nodes-after : nodes_after m n ≡ walk_on m.count m (ahead m n)
+  pub nodes_after_lem : nodes_after m n ≡ walk_on m.count m (ahead m n)
   unfolding walk
-  nodes-after = sym (walk-ends-by-itself (suc m.count) (omega arith))
+  nodes_after_lem = sym (walk_ends_by_itself (suc m.count) (omega arith))

@@ -20,8 +20,8 @@ use Rattle.table.specs.Places.{Row, read_link, write_link, swap_link, read_delet
 use Rattle.table.specs.Steps.{access_of, turn_in}
 use Rattle.table.specs.Events.{Left, leaving, does, act, State, record_in, Leaves, stored, event}
 use Rattle.table.proofs.Laws.Fitting.{count_written, count_given}
-use Rattle.table.proofs.Laws.Meets.{Alone, deletes, finds, stops, restarts, does-meets, act-meets, refused_stored, event-meets}
-use Rattle.table.proofs.Laws.Numbered.{address_written, used_not_next, given-address-else}
+use Rattle.table.proofs.Laws.Meets.{Alone, deletes, finds, stops, restarts, does_meets, act_meets, refused_stored, event_meets}
+use Rattle.table.proofs.Laws.Numbered.{address_written, used_not_next, given_address_else}
 
 -- ---- "nothing changed"
 
@@ -54,19 +54,19 @@ refused_is : (m : Memory) (r : Record) (n : ℕ) → Unchanged m r (leaving m r 
 refused_is m r n k e = ap (λ o. leaving m r o) e
 
 does_refused : (m : Memory) (p : Process) (r : Record) (x : Action) → Unchanged m r (does m p r x)
-does_refused m p r x = does-meets (Unchanged m r) m p r x
+does_refused m p r x = does_meets (Unchanged m r) m p r x
     (refused_is m r 3) (λ a is spare n e. absurd (accepted_not_refused e))
     (refused_is m r 8) (λ is fits n e. absurd (turn_no_refusal m p r n e))
     (λ s alone n e. absurd (accepted_not_refused e))
 
 pub refused_act_changes_nothing : (m : Memory) (p : Process) (r : Record) (x : Action) (n : ℕ)
     → (act m p r x).outcome ≡ Refused n → act m p r x ≡ leaving m r (Refused n)
-refused_act_changes_nothing m p r x = act-meets (Unchanged m r) m p r x (refused_is m r) (λ fit there. does_refused m p r x)
+refused_act_changes_nothing m p r x = act_meets (Unchanged m r) m p r x (refused_is m r) (λ fit there. does_refused m p r x)
 
 pub refused_changes_nothing : (σ : State) (e : Event) (n : ℕ) → (event σ e).outcome ≡ Refused n → (event σ e).after ≡ σ
 unfolding stored
 refused_changes_nothing σ e =
-    event-meets σ e (λ l. (n : ℕ) → l.outcome ≡ Refused n → l.after ≡ σ)
+    event_meets σ e (λ l. (n : ℕ) → l.outcome ≡ Refused n → l.after ≡ σ)
     (λ long n h.
     ap (λ d. (stored σ e.process d).after)
     (refused_act_changes_nothing σ.memory e.process (record_in σ e.process) e.action n h)
@@ -78,7 +78,7 @@ refused_changes_nothing σ e =
 pub others_untouched : (σ : State) (e : Event) (q : Process) → q.0 ≢ e.process.0 → record_in (event σ e).after q ≡ record_in σ q
 unfolding stored record_in
 others_untouched σ e q other =
-    event-meets σ e (λ l. record_in l.after q ≡ record_in σ q)
+    event_meets σ e (λ l. record_in l.after q ≡ record_in σ q)
     (λ long. get_or-set_other σ.row e.process.0 q.0 _ fresh_record other)
     refl
 
@@ -104,7 +104,7 @@ alone_no_insert restarts = refl
 
 does_counts : (m : Memory) (p : Process) (r : Record) (x : Action) → Counts m x (does m p r x)
 unfolding count_after
-does_counts m p r x = does-meets (Counts m x) m p r x
+does_counts m p r x = does_meets (Counts m x) m p r x
     (refused_counts m r x 3) (λ a is spare. rw is (count_given a m))
     (refused_counts m r x 8) (λ is fits. rw is (count_written (turn_in m p r).writes m))
     (λ s alone. rw (alone_no_insert alone))
@@ -115,8 +115,8 @@ unfolding stored
 only_inserts_move_the_count σ e =
     let m = σ.memory in
     let r = record_in σ e.process in
-    event-meets σ e (λ l. l.after.memory.count ≡ count_after e.action l.outcome m.count)
-    (λ long. act-meets (Counts m e.action) m e.process r e.action (refused_counts m r e.action)
+    event_meets σ e (λ l. l.after.memory.count ≡ count_after e.action l.outcome m.count)
+    (λ long. act_meets (Counts m e.action) m e.process r e.action (refused_counts m r e.action)
     (λ fit there. does_counts m e.process r e.action))
     (refused_counts m r e.action 7)
 
@@ -126,8 +126,8 @@ abbrev Fixed : Memory → Node → Left → Type 0
 Fixed m n d = address_at d.memory n ≡ address_at m n
 
 does_fixed : (m : Memory) (p : Process) (r : Record) (x : Action) (n : Node) → in_use m n ≡ true → Fixed m n (does m p r x)
-does_fixed m p r x n u = does-meets (Fixed m n) m p r x
-    refl (λ a is spare. given-address-else a m n.0 (used_not_next m n.0 u))
+does_fixed m p r x n u = does_meets (Fixed m n) m p r x
+    refl (λ a is spare. given_address_else a m n.0 (used_not_next m n.0 u))
     refl (λ is fits. address_written (turn_in m p r).writes m n.0)
     (λ s alone. refl)
 
@@ -137,6 +137,6 @@ unfolding stored
 address_fixed_while_in_use σ e n used =
     let m = σ.memory in
     let r = record_in σ e.process in
-    event-meets σ e (λ l. address_at l.after.memory n ≡ address_at m n)
-    (λ long. act-meets (Fixed m n) m e.process r e.action (λ k. refl) (λ fit there. does_fixed m e.process r e.action n used))
+    event_meets σ e (λ l. address_at l.after.memory n ≡ address_at m n)
+    (λ long. act_meets (Fixed m n) m e.process r e.action (λ k. refl) (λ fit there. does_fixed m e.process r e.action n used))
     refl

@@ -177,12 +177,12 @@ module _ (m : Memory) where
     most = leb-true m.count m.nodes (c 3);
   }
 
-  pub sizes-of : tables_fit m ≡ true → sizes_fit m.nodes m.processes ≡ true
+  pub sizes_of_lem : tables_fit m ≡ true → sizes_fit m.nodes m.processes ≡ true
   unfolding tables_fit
-  sizes-of h = each_true fits (reaches ∷ leb 2 m.count ∷ leb m.count m.nodes ∷ []) h 0
+  sizes_of_lem h = each_true fits (reaches ∷ leb 2 m.count ∷ leb m.count m.nodes ∷ []) h 0
 
   pub limits : tables_fit m ≡ true → Limits m.nodes m.processes
-  limits h = limits_of m.nodes m.processes (sizes-of h)
+  limits h = limits_of m.nodes m.processes (sizes_of_lem h)
 
   pub fit_of : sizes_fit m.nodes m.processes ≡ true → Room m → tables_fit m ≡ true
   unfolding tables_fit

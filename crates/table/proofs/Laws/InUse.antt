@@ -59,10 +59,10 @@ pub not_next : (m : Memory) (n : Node) → in_use m n ≡ true → n ≢ next_no
 not_next m n u q = absurd (omega (arith, used_below m n u, ap (λ (k : Node). k.0) q))
 
 module _ (a : Address) (m : Memory) where
-  pub given-used : in_use (given_out a m) (next_node m) ≡ true
+  pub given_used : in_use (given_out a m) (next_node m) ≡ true
   unfolding in_use
-  given-used = lt-ltb m.count (given_out a m).count (omega (arith, count_given a m))
+  given_used = lt-ltb m.count (given_out a m).count (omega (arith, count_given a m))
 
-  pub given-keeps-used : (n : Node) → in_use m n ≡ true → in_use (given_out a m) n ≡ true
+  pub given_keeps_used : (n : Node) → in_use m n ≡ true → in_use (given_out a m) n ≡ true
   unfolding in_use
-  given-keeps-used n u = lt-ltb n.0 (given_out a m).count (omega (arith, used_below m n u, count_given a m))
+  given_keeps_used n u = lt-ltb n.0 (given_out a m).count (omega (arith, used_below m n u, count_given a m))

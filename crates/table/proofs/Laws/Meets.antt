@@ -20,7 +20,7 @@ use Rattle.table.specs.Words.{Memory, given_out, next_node, none_left, written}
 use Rattle.table.specs.Steps.{turn_in}
 use Rattle.table.specs.Events.{Left, leaving, refused, step, does, status_needed, tables_fit, act, State, record_in, Leaves, leaves_in}
 use Rattle.table.specs.Events.{state_of, stored, event, refusal_in}
-use Rattle.basics.proofs.Tests.{if, if-le, by-test}
+use Rattle.basics.proofs.Tests.{if, if_le, by-test}
 use Rattle.table.proofs.Laws.Fitting.{limits}
 
 -- an action on the record alone: the memory stays, and it is accepted
@@ -47,36 +47,36 @@ by_action r Stop insert step alone = alone _ stops
 by_action r Restart insert step alone = alone _ restarts
 
 module _ (P : Left → Type 0) (m : Memory) (p : Process) (r : Record) where
-  pub step-meets : ((turn_in m p r).fits ≡ true → P (leaving (written (turn_in m p r).writes m) (turn_in m p r).after (turn_in m p r).says))
+  pub step_meets : ((turn_in m p r).fits ≡ true → P (leaving (written (turn_in m p r).writes m) (turn_in m p r).after (turn_in m p r).says))
       → P (refused m r 8) → P (step m p r)
   unfolding step
-  step-meets done refusal = if P (turn_in m p r).fits done (λ unfit. refusal)
+  step_meets done refusal = if P (turn_in m p r).fits done (λ unfit. refusal)
 
-  pub insert-meets : (a : Address) → (none_left m ≡ true → P (refused m r 3))
+  pub insert_meets : (a : Address) → (none_left m ≡ true → P (refused m r 3))
       → (none_left m ≡ false → P (leaving (given_out a m) (requested 0 insert_kind a (next_node m) r) Accepted)) → P (does m p r (Insert a))
   unfolding does
-  insert-meets a refusal done = if P (none_left m) refusal done
+  insert_meets a refusal done = if P (none_left m) refusal done
 
-  pub does-meets : (x : Action) → P (refused m r 3)
+  pub does_meets : (x : Action) → P (refused m r 3)
       → ((a : Address) → x ≡ Insert a → none_left m ≡ false → P (leaving (given_out a m) (requested 0 insert_kind a (next_node m) r) Accepted))
       → P (refused m r 8)
       → (x ≡ Step → (turn_in m p r).fits ≡ true → P (leaving (written (turn_in m p r).writes m) (turn_in m p r).after (turn_in m p r).says))
       → ((s : Record) → Alone r x s → P (leaving m s Accepted)) → P (does m p r x)
   unfolding does
-  does-meets x none insert unfit step alone = by_action r x
-      (λ a is. rw is (insert-meets a (λ e. none) (insert a is)))
-      (λ is. rw is (step-meets (step is) unfit))
+  does_meets x none insert unfit step alone = by_action r x
+      (λ a is. rw is (insert_meets a (λ e. none) (insert a is)))
+      (λ is. rw is (step_meets (step is) unfit))
       (λ s z. rw (does_alone z m p) (alone s z))
 
   -- 7, 1, 2 in this order, or what is done; each with what was found before it
-  judged-meets : (fit there ready : Bool) (d : Left) → (fit ≡ false → P (refused m r 7)) → (fit ≡ true → there ≡ false → P (refused m r 1))
+  judged_meets : (fit there ready : Bool) (d : Left) → (fit ≡ false → P (refused m r 7)) → (fit ≡ true → there ≡ false → P (refused m r 1))
       → (fit ≡ true → there ≡ true → ready ≡ false → P (refused m r 2)) → (fit ≡ true → there ≡ true → ready ≡ true → P d)
       → P (cond (eqb (refusal_in fit there ready) 0) d (refused m r (refusal_in fit there ready)))
   unfolding refusal_in
-  judged-meets true true true d unfit beyond other done = done refl refl refl
-  judged-meets true true false d unfit beyond other done = other refl refl refl
-  judged-meets true false ready d unfit beyond other done = beyond refl refl
-  judged-meets false there ready d unfit beyond other done = unfit refl
+  judged_meets true true true d unfit beyond other done = done refl refl refl
+  judged_meets true true false d unfit beyond other done = other refl refl refl
+  judged_meets true false ready d unfit beyond other done = beyond refl refl
+  judged_meets false there ready d unfit beyond other done = unfit refl
 
   module _ (x : Action) where
     abbrev fit : Bool
@@ -88,14 +88,14 @@ module _ (P : Left → Type 0) (m : Memory) (p : Process) (r : Record) where
     abbrev ready : Bool
     ready = eqb r.kept.status (status_needed x)
 
-    pub act-judged : (fit ≡ false → P (refused m r 7)) → (fit ≡ true → there ≡ false → P (refused m r 1))
+    pub act_judged : (fit ≡ false → P (refused m r 7)) → (fit ≡ true → there ≡ false → P (refused m r 1))
         → (fit ≡ true → there ≡ true → ready ≡ false → P (refused m r 2))
         → (fit ≡ true → there ≡ true → ready ≡ true → P (does m p r x)) → P (act m p r x)
     unfolding act
-    act-judged = judged-meets fit there ready (does m p r x)
+    act_judged = judged_meets fit there ready (does m p r x)
 
-    pub act-meets : ((n : ℕ) → P (leaving m r (Refused n))) → (fit ≡ true → there ≡ true → P (does m p r x)) → P (act m p r x)
-    act-meets refusal done = act-judged (λ f. refusal 7) (λ f t. refusal 1) (λ f t s. refusal 2) (λ f t s. done f t)
+    pub act_meets : ((n : ℕ) → P (leaving m r (Refused n))) → (fit ≡ true → there ≡ true → P (does m p r x)) → P (act m p r x)
+    act_meets refusal done = act_judged (λ f. refusal 7) (λ f t. refusal 1) (λ f t s. refusal 2) (λ f t s. done f t)
 
 -- a refusal leaves every record as it was
 pub refused_stored : (σ : State) (p : Process) (n : ℕ) → stored σ p (leaving σ.memory (record_in σ p) (Refused n)) ≡ leaves_in σ (Refused n)
@@ -109,7 +109,7 @@ Never m p = tables_fit m ≡ true → ltb p.0 m.processes ≡ true → ⊥
 pub refused_anywhere : (m : Memory) (p : Process) (r : Record) (x : Action) → Never m p
     → act m p r x ≡ leaving m r (cond (tables_fit m) (Refused 1) (Refused 7))
 refused_anywhere m p r x never =
-    act-judged (λ d. d ≡ leaving m r (cond (tables_fit m) (Refused 1) (Refused 7))) m p r x
+    act_judged (λ d. d ≡ leaving m r (cond (tables_fit m) (Refused 1) (Refused 7))) m p r x
     (λ unfit. rw unfit refl) (λ fit beyond. rw fit refl) (λ fit there other. absurd (never fit there)) (λ fit there ready. absurd (never fit there))
 
 -- so refused, worked on any record of a row: it is stored back as it was
@@ -125,58 +125,58 @@ module _ (σ : State) (e : Event) where
   abbrev done : Leaves
   done = stored σ e.process (act σ.memory e.process (record_in σ e.process) e.action)
 
-  pub event-meets : (P : Leaves → Type 0) → (σ.memory.processes ≤ length σ.row → P done) → P (leaves_in σ (Refused 7)) → P (event σ e)
+  pub event_meets : (P : Leaves → Type 0) → (σ.memory.processes ≤ length σ.row → P done) → P (leaves_in σ (Refused 7)) → P (event σ e)
   unfolding event
-  event-meets P long short = if-le P σ.memory.processes (length σ.row) long (λ few. short)
+  event_meets P long short = if_le P σ.memory.processes (length σ.row) long (λ few. short)
 
   -- in a row that is long enough
-  pub event-in-row : σ.memory.processes ≤ length σ.row → event σ e ≡ done
+  pub event_in_row : σ.memory.processes ≤ length σ.row → event σ e ≡ done
   unfolding event
-  event-in-row long = rw (le-leb σ.memory.processes (length σ.row) long)
+  event_in_row long = rw (le-leb σ.memory.processes (length σ.row) long)
 
-  pub event-in-short-row : length σ.row < σ.memory.processes → event σ e ≡ leaves_in σ (Refused 7)
+  pub event_in_short_row : length σ.row < σ.memory.processes → event σ e ≡ leaves_in σ (Refused 7)
   unfolding event
-  event-in-short-row short = rw (lt-leb σ.memory.processes (length σ.row) short)
+  event_in_short_row short = rw (lt-leb σ.memory.processes (length σ.row) short)
 
   -- of a process that is not there, whatever record it is worked on: nothing is stored
   module _ (long : σ.memory.processes ≤ length σ.row) (beyond : σ.memory.processes ≤ e.process.0) (r : Record) where
     never : Never σ.memory e.process
     never fit there = false≢true (sym (le-ltb e.process.0 σ.memory.processes beyond) ∙ there)
 
-    pub event-of-nobody : event σ e ≡ leaves_in σ (act σ.memory e.process r e.action).outcome
-    event-of-nobody =
-        event-in-row long
+    pub event_of_nobody : event σ e ≡ leaves_in σ (act σ.memory e.process r e.action).outcome
+    event_of_nobody =
+        event_in_row long
         ∙ refused_in_row σ e.process e.process e.action never
         ∙ ap (λ (d : Left). leaves_in σ d.outcome) (sym (refused_anywhere σ.memory e.process r e.action never))
 
     -- the same, with the memory that is left of the one worked on
-    pub event-left-by-nobody : let d = act σ.memory e.process r e.action in event σ e ≡ leaves_in (state_of d.memory σ.row) d.outcome
-    event-left-by-nobody =
+    pub event_left_by_nobody : let d = act σ.memory e.process r e.action in event σ e ≡ leaves_in (state_of d.memory σ.row) d.outcome
+    event_left_by_nobody =
         let d = act σ.memory e.process r e.action in
-        event-of-nobody
+        event_of_nobody
         ∙ ap (λ (m : Memory). leaves_in (state_of m σ.row) d.outcome)
         (sym (ap (λ (d : Left). d.memory) (refused_anywhere σ.memory e.process r e.action never)))
 
   -- worked on the record of a slot in a row of 64, where a process that is there has its own: 64 is the limit for sizes that fit
   module _ (slot : Process) (long : 64 ≤ length σ.row)
       (own : tables_fit σ.memory ≡ true → e.process.0 < σ.memory.processes → slot ≡ e.process) where
-    abbrev atSlot : Process → Leaves
-    atSlot q = stored σ q (act σ.memory e.process (record_in σ q) e.action)
+    abbrev at_slot : Process → Leaves
+    at_slot q = stored σ q (act σ.memory e.process (record_in σ q) e.action)
 
-    same-slot : Never σ.memory e.process → atSlot e.process ≡ atSlot slot
-    same-slot never = refused_in_row σ e.process e.process e.action never ∙ sym (refused_in_row σ e.process slot e.action never)
+    same_slot : Never σ.memory e.process → at_slot e.process ≡ at_slot slot
+    same_slot never = refused_in_row σ e.process e.process e.action never ∙ sym (refused_in_row σ e.process slot e.action never)
 
-    slot-where-fit : tables_fit σ.memory ≡ true → event σ e ≡ atSlot slot
-    slot-where-fit fit =
-        event-in-row (omega (arith, (limits σ.memory fit).few_processes))
+    slot_where_fit : tables_fit σ.memory ≡ true → event σ e ≡ at_slot slot
+    slot_where_fit fit =
+        event_in_row (omega (arith, (limits σ.memory fit).few_processes))
         ∙ by-test (ltb e.process.0 σ.memory.processes)
-        (λ there. ap atSlot (sym (own fit (ltb-true e.process.0 σ.memory.processes there))))
-        (λ past. same-slot (λ _ there. false≢true (sym past ∙ there)))
+        (λ there. ap at_slot (sym (own fit (ltb-true e.process.0 σ.memory.processes there))))
+        (λ past. same_slot (λ _ there. false≢true (sym past ∙ there)))
 
-    slot-where-unfit : tables_fit σ.memory ≡ false → event σ e ≡ atSlot slot
-    slot-where-unfit unfit =
+    slot_where_unfit : tables_fit σ.memory ≡ false → event σ e ≡ at_slot slot
+    slot_where_unfit unfit =
         let never : Never σ.memory e.process = λ fit there. false≢true (sym unfit ∙ fit) in
-        event-meets (λ l. l ≡ atSlot slot) (λ _. same-slot never) (sym (rw unfit at (refused_in_row σ e.process slot e.action never)))
+        event_meets (λ l. l ≡ at_slot slot) (λ _. same_slot never) (sym (rw unfit at (refused_in_row σ e.process slot e.action never)))
 
-    pub event-by-slot : event σ e ≡ atSlot slot
-    event-by-slot = by-test (tables_fit σ.memory) slot-where-fit slot-where-unfit
+    pub event_by_slot : event σ e ≡ at_slot slot
+    event_by_slot = by-test (tables_fit σ.memory) slot_where_fit slot_where_unfit

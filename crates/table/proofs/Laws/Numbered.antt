@@ -98,8 +98,8 @@ HeldIn m a = Held m (address a)
 
 pub held_number : {m : Memory} {a : Address} {n : Node} → HeldBy m a n → Holder m a.0 n.0
 held_number {m} {a} {n} h =
-    let not-0 : n.0 ≢ 0 = λ q. h.not_head (ap node q) in
-    let not-1 : n.0 ≢ 1 = λ q. h.not_tail (ap node q) in
+    let not_0 : n.0 ≢ 0 = λ q. h.not_head (ap node q) in
+    let not_1 : n.0 ≢ 1 = λ q. h.not_tail (ap node q) in
     record {
       on = on_number m h.on;
       inner = omega arith;
@@ -180,32 +180,32 @@ used_not_next m n u q = not_next m (node n) u (ap node q)
 
 module _ (a : Address) (m : Memory) where
   module _ (o : Room m) (spare : none_left m ≡ false) where
-    pub given-link : link_in (given_out a m) (next_in m) ≡ plain_to 1
+    pub given_link : link_in (given_out a m) (next_in m) ≡ plain_to 1
     unfolding link_at given_out lengths
-    given-link = get_or-set_same m.links (next_in m) (plain_to 1) 0 (omega (arith, next_within o spare, o.long.links))
+    given_link = get_or-set_same m.links (next_in m) (plain_to 1) 0 (omega (arith, next_within o spare, o.long.links))
 
-    pub given-address : address_in (given_out a m) (next_in m) ≡ a.0
+    pub given_address : address_in (given_out a m) (next_in m) ≡ a.0
     unfolding address_at given_out lengths
-    given-address = get_or-set_same m.addresses (next_in m) a.0 0 (omega (arith, next_within o spare, o.long.addresses))
+    given_address = get_or-set_same m.addresses (next_in m) a.0 0 (omega (arith, next_within o spare, o.long.addresses))
 
-    pub given-deleter : deleter_in (given_out a m) (next_in m) ≡ 0
+    pub given_deleter : deleter_in (given_out a m) (next_in m) ≡ 0
     unfolding deleter_at given_out lengths
-    given-deleter = get_or-set_same m.deleters (next_in m) 0 0 (omega (arith, next_within o spare, o.long.deleters))
+    given_deleter = get_or-set_same m.deleters (next_in m) 0 0 (omega (arith, next_within o spare, o.long.deleters))
 
   -- the words of another node stay
   module _ (x : ℕ) (h : x ≢ next_in m) where
-    pub given-link-else : link_in (given_out a m) x ≡ link_in m x
+    pub given_link_else : link_in (given_out a m) x ≡ link_in m x
     unfolding link_at given_out
-    given-link-else = get_or-set_other m.links (next_in m) x (plain_to 1) 0 h
+    given_link_else = get_or-set_other m.links (next_in m) x (plain_to 1) 0 h
 
-    pub given-address-else : address_in (given_out a m) x ≡ address_in m x
+    pub given_address_else : address_in (given_out a m) x ≡ address_in m x
     unfolding address_at given_out
-    given-address-else = get_or-set_other m.addresses (next_in m) x a.0 0 h
+    given_address_else = get_or-set_other m.addresses (next_in m) x a.0 0 h
 
-    pub given-deleter-else : deleter_in (given_out a m) x ≡ deleter_in m x
+    pub given_deleter_else : deleter_in (given_out a m) x ≡ deleter_in m x
     unfolding deleter_at given_out
-    given-deleter-else = get_or-set_other m.deleters (next_in m) x 0 0 h
+    given_deleter_else = get_or-set_other m.deleters (next_in m) x 0 0 h
 
-    pub given-rank-else : rank_in (given_out a m) x ≡ rank_in m x
+    pub given_rank_else : rank_in (given_out a m) x ≡ rank_in m x
     unfolding rank given_out
-    given-rank-else = rw (get_or-set_other m.addresses (next_in m) x a.0 0 h)
+    given_rank_else = rw (get_or-set_other m.addresses (next_in m) x a.0 0 h)

@@ -69,23 +69,23 @@ module _ (R : Record) (ok : in_range R ≡ true) where
   unfolding in_range
   condition = each_true (leb R.lost.place 19) (conditions R) ok
 
-  pub result-in-range : R.kept.result ≤ 2
-  result-in-range = leb-true R.kept.result 2 (condition 3)
+  pub result_in_range : R.kept.result ≤ 2
+  result_in_range = leb-true R.kept.result 2 (condition 3)
 
-  pub pending-in-range : R.lost.pending ≤ 3
-  pending-in-range = leb-true R.lost.pending 3 (condition 2)
+  pub pending_in_range : R.lost.pending ≤ 3
+  pending_in_range = leb-true R.lost.pending 3 (condition 2)
 
-  place-number : (l : Place) → place_of R.lost.place ≡ l → R.lost.place ≡ number l
-  place-number l q = sym (place_numbered R.lost.place (leb-true R.lost.place 19 (condition 0))) ∙ ap (λ x. number x) q
+  place_number : (l : Place) → place_of R.lost.place ≡ l → R.lost.place ≡ number l
+  place_number l q = sym (place_numbered R.lost.place (leb-true R.lost.place 19 (condition 0))) ∙ ap (λ x. number x) q
 
-  pub pending-18 : place_of R.lost.place ≡ p18 → R.lost.pending ≢ fail_answer
-  pending-18 q v = false≢true (rw (place-number p18 q, v) at (condition 4))
+  pub pending_18 : place_of R.lost.place ≡ p18 → R.lost.pending ≢ fail_answer
+  pending_18 q v = false≢true (rw (place_number p18 q, v) at (condition 4))
 
-  pub pending-18-given : place_of R.lost.place ≡ p18 → R.lost.pending ≢ no_answer
-  pending-18-given q v = false≢true (rw (place-number p18 q, v) at (condition 4))
+  pub pending_18_given : place_of R.lost.place ≡ p18 → R.lost.pending ≢ no_answer
+  pending_18_given q v = false≢true (rw (place_number p18 q, v) at (condition 4))
 
-  pub pending-19 : place_of R.lost.place ≡ p19 → R.lost.pending ≢ no_answer
-  pending-19 q v = false≢true (rw (place-number p19 q, v) at (condition 5))
+  pub pending_19 : place_of R.lost.place ≡ p19 → R.lost.pending ≢ no_answer
+  pending_19 q v = false≢true (rw (place_number p19 q, v) at (condition 5))
 
 -- ---- ranges that hold through a record's rows
 
@@ -102,10 +102,10 @@ AnswersFitIn R = AnswersFit R.lost.place R.lost.pending R.kept.result
 pub answers_fit : (R : Record) → in_range R ≡ true → AnswersFitIn R
 unfolding place_of
 answers_fit R ok = record {
-  result_fits = result-in-range R ok;
-  pending_fits = pending-in-range R ok;
-  at_18 = λ q. let z = ap place_of q in (omega (arith, pending-18-given R ok z), omega (arith, pending-18 R ok z, pending-in-range R ok));
-  at_19 = λ q. omega (arith, pending-19 R ok (ap place_of q));
+  result_fits = result_in_range R ok;
+  pending_fits = pending_in_range R ok;
+  at_18 = λ q. let z = ap place_of q in (omega (arith, pending_18_given R ok z), omega (arith, pending_18 R ok z, pending_in_range R ok));
+  at_19 = λ q. omega (arith, pending_19 R ok (ap place_of q));
 }
 
 pub in_range_lem : (R : Record) → R.lost.place ≤ 19 → R.kept.kind ≤ 2 → (R.kept.kind ≡ find_kind → 3 ≤ R.lost.place) → AnswersFitIn R → in_range R ≡ true
@@ -115,23 +115,23 @@ in_range_lem R place kind find x = rw (
   le-leb R.kept.kind 2 kind,
   le-leb R.lost.pending 3 x.pending_fits,
   le-leb R.kept.result 2 x.result_fits,
-  pending-18-fits,
-  pending-19-fits,
-  no-find,
+  pending_18_fits,
+  pending_19_fits,
+  no_find,
 ) refl
   where
-    pending-18-fits : not (eqb R.lost.place 18 && (eqb R.lost.pending no_answer || eqb R.lost.pending fail_answer)) ≡ true
-    pending-18-fits = test-eq (λ b. not (b && (eqb R.lost.pending no_answer || eqb R.lost.pending fail_answer)) ≡ true) R.lost.place 18
+    pending_18_fits : not (eqb R.lost.place 18 && (eqb R.lost.pending no_answer || eqb R.lost.pending fail_answer)) ≡ true
+    pending_18_fits = test-eq (λ b. not (b && (eqb R.lost.pending no_answer || eqb R.lost.pending fail_answer)) ≡ true) R.lost.place 18
         (λ q. rw (
           ne_eqb R.lost.pending no_answer (λ v. absurd (omega (arith, (x.at_18 q).0))),
           ne_eqb R.lost.pending fail_answer (λ v. absurd (omega (arith, (x.at_18 q).1))),
         ) refl)
         (λ q. refl)
 
-    pending-19-fits : not (eqb R.lost.place 19 && eqb R.lost.pending no_answer) ≡ true
-    pending-19-fits = test-eq (λ b. not (b && eqb R.lost.pending no_answer) ≡ true) R.lost.place 19
+    pending_19_fits : not (eqb R.lost.place 19 && eqb R.lost.pending no_answer) ≡ true
+    pending_19_fits = test-eq (λ b. not (b && eqb R.lost.pending no_answer) ≡ true) R.lost.place 19
         (λ q. rw (ne_eqb R.lost.pending no_answer (λ v. absurd (omega (arith, x.at_19 q)))) refl) (λ q. refl)
 
-    no-find : not (leb R.lost.place 2 && eqb R.kept.kind find_kind) ≡ true
-    no-find = test-eq (λ b. not (leb R.lost.place 2 && b) ≡ true) R.kept.kind find_kind
+    no_find : not (leb R.lost.place 2 && eqb R.kept.kind find_kind) ≡ true
+    no_find = test-eq (λ b. not (leb R.lost.place 2 && b) ≡ true) R.kept.kind find_kind
         (λ q. rw (lt-leb R.lost.place 2 (find q)) refl) (λ q. rw (and-false (leb R.lost.place 2)) refl)

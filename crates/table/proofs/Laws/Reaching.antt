@@ -44,15 +44,15 @@ module _ (f : ℕ → ℕ) (rank : ℕ → ℕ) (rise : (x : ℕ) → Along f 0 
   join r (origin e) = cast r e
   join r (further s n e) = further (join r s) n e
 
-  rank-le : {x y : ℕ} → Along f 0 x → Along f x y → rank x ≤ rank y
-  rank-le r (origin e) = omega (arith, ap rank e)
-  rank-le r (further {x = z} s n e) = omega (arith, rank-le r s, rise z (join r s) n, ap rank e)
+  rank_le : {x y : ℕ} → Along f 0 x → Along f x y → rank x ≤ rank y
+  rank_le r (origin e) = omega (arith, ap rank e)
+  rank_le r (further {x = z} s n e) = omega (arith, rank_le r s, rise z (join r s) n, ap rank e)
 
   -- no rank stands between that of a node and that of the next
   pub gap : {x y : ℕ} → Along f 0 x → Along f 0 y → (rank y ≤ rank x) ⊎ (rank (f x) ≤ rank y)
   gap {x} {y} r s = elim (total r s) [
-    | inl u ↦ elim (front u) [ inl e ↦ inl (omega (arith, ap rank e)) | inr v ↦ inr (rank-le (further r v.0 refl) v.1) ]
-    | inr u ↦ inl (rank-le s u)
+    | inl u ↦ elim (front u) [ inl e ↦ inl (omega (arith, ap rank e)) | inr v ↦ inr (rank_le (further r v.0 refl) v.1) ]
+    | inr u ↦ inl (rank_le s u)
   ]
 
   -- a rank stands once on the chain
@@ -61,7 +61,7 @@ module _ (f : ℕ → ℕ) (rank : ℕ → ℕ) (rise : (x : ℕ) → Along f 0 
     where
       first : {u v : ℕ} → Along f 0 u → rank u ≡ rank v → (u ≡ v) ⊎ ((u ≢ 1) × Along f (f u) v) → u ≡ v
       first c k (inl e) = e
-      first {u} {v} c k (inr w) = absurd (omega (arith, rank-le (further c w.0 refl) w.1, rise u c w.0))
+      first {u} {v} c k (inr w) = absurd (omega (arith, rank_le (further c w.0 refl) w.1, rise u c w.0))
 
 -- a next-function that agrees on the chain has the same chain
 pub same_chain : (f g : ℕ → ℕ) → ((x : ℕ) → Along f 0 x → g x ≡ f x) → {x : ℕ} → Along f 0 x → Along g 0 x
@@ -82,13 +82,13 @@ module _ (f g : ℕ → ℕ) (p c : ℕ) (cn : c ≢ 1) (gp : g p ≡ c) (gc : g
     | no q ↦ further (put_keeps r) n (same z q (off z r) ∙ e)
   ]
 
-  pub put-brings : Along f 0 p → p ≢ 1 → {x : ℕ} → Along g 0 x → Along f 0 x ⊎ (x ≡ c)
-  put-brings b pn (origin e) = inl (origin e)
-  put-brings b pn (further {x = z} r n e) = elim (ℕ_discrete z c) [
+  pub put_brings : Along f 0 p → p ≢ 1 → {x : ℕ} → Along g 0 x → Along f 0 x ⊎ (x ≡ c)
+  put_brings b pn (origin e) = inl (origin e)
+  put_brings b pn (further {x = z} r n e) = elim (ℕ_discrete z c) [
     | yes q ↦ inl (further b pn (sym gc ∙ ap g (sym q) ∙ e))
     | no k ↦ elim (ℕ_discrete z p) [
       | yes q ↦ inr (sym e ∙ ap g q ∙ gp)
-      | no q ↦ elim (put-brings b pn r) [ inl s ↦ inl (further s n (sym (same z q k) ∙ e)) | inr s ↦ absurd (k s) ]
+      | no q ↦ elim (put_brings b pn r) [ inl s ↦ inl (further s n (sym (same z q k) ∙ e)) | inr s ↦ absurd (k s) ]
     ]
   ]
 
@@ -101,9 +101,9 @@ module _ (f g : ℕ → ℕ) (p c : ℕ) (fp : f p ≡ c) (pn : p ≢ 1) (cn : c
     | inr s ↦ inl (further s.1 pn (gp ∙ ap f (sym s.0) ∙ e))
   ]
 
-  pub cut-brings : Along f 0 p → {x : ℕ} → Along g 0 x → Along f 0 x
-  cut-brings b (origin e) = origin e
-  cut-brings b (further {x = z} r n e) = elim (ℕ_discrete z p) [
+  pub cut_brings : Along f 0 p → {x : ℕ} → Along g 0 x → Along f 0 x
+  cut_brings b (origin e) = origin e
+  cut_brings b (further {x = z} r n e) = elim (ℕ_discrete z p) [
     | yes q ↦ further (further b pn fp) cn (sym gp ∙ ap g (sym q) ∙ e)
-    | no q ↦ further (cut-brings b r) n (sym (same z q) ∙ e)
+    | no q ↦ further (cut_brings b r) n (sym (same z q) ∙ e)
   ]

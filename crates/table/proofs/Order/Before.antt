@@ -56,11 +56,11 @@ module _ (H : History) (order : Order H) (s u : Slot) (v : Answer) (m : Memᴰ s
   less : s.moment < u.moment
   less = omega (arith, ((order.stand s m).ended v answered).0, (order.stand u n).begun)
 
-  pub answered-before-stands-before : StandsBefore s u order.slots
-  answered-before-stands-before = earlier_stands_before 0 order.slots order.rising s u m n less
+  pub answered_before_stands_before : StandsBefore s u order.slots
+  answered_before_stands_before = earlier_stands_before 0 order.slots order.rising s u m n less
 
-  pub answered-before-not-after : StandsBefore u s order.slots → ⊥
-  answered-before-not-after b = omega (arith, stands_before_earlier 0 order.slots order.rising u s b, less)
+  pub answered_before_not_after : StandsBefore u s order.slots → ⊥
+  answered_before_not_after b = omega (arith, stands_before_earlier 0 order.slots order.rising u s b, less)
 
 -- ---- a find after an insert
 
@@ -103,7 +103,7 @@ slot_of {H} {kind} {a} {value} x moment = record {
 -- an insert answered true, nothing deleted, a find requested afterwards: it is not answered false
 pub find_after_insert_is_not_false : (H : History) → ((r : ℕ) (o : Operation) → H.asked r ≡ some o → o.kind ≢ delete)
     → (a : Address) (i : AnsweredOf H insert a true_answer) (f : AnsweredOf H find a false_answer) → i.time < f.request → Order H → ⊥
-find_after_insert_is_not_false H no-delete a i f later order = omega (arith, true-instead)
+find_after_insert_is_not_false H no_delete a i f later order = omega (arith, true_instead)
   where
     put : (t : ℕ) × Memᴰ (slot_of i t) order.slots
     put = order.whole i.request _ _ i.asked refl (λ z. absurd (omega arith))
@@ -112,16 +112,16 @@ find_after_insert_is_not_false H no-delete a i f later order = omega (arith, tru
     sought = order.whole f.request _ _ f.asked refl (λ z. absurd (omega arith))
 
     b : StandsBefore (slot_of i put.0) (slot_of f sought.0) order.slots
-    b = answered-before-stands-before H order _ _ _ put.1 sought.1 refl later
+    b = answered_before_stands_before H order _ _ _ put.1 sought.1 refl later
 
     then : Set
     then = worked H.start b.earlier
 
     kept : (x : Slot) → Memᴰ x b.later → x.operation.kind ≢ delete
     kept x m = let n = subst (λ l. Memᴰ x l) (sym b.parts) (Memᴰ.append_right b.earlier (Memᴰ.tail m)) in
-        no-delete x.request x.operation (order.stand x n).asked
+        no_delete x.request x.operation (order.stand x n).asked
 
-    true-instead : false_answer ≡ true_answer
-    true-instead = found_in a (set_after (slot_of i put.0) then) b.later kept (in_inserted then (slot_of i put.0) refl)
+    true_instead : false_answer ≡ true_answer
+    true_instead = found_in a (set_after (slot_of i put.0) then) b.later kept (in_inserted then (slot_of i put.0) refl)
         (same_answers_after H.start b.earlier (slot_of i put.0 ∷ b.later) (subst (SameAnswers H.start) b.parts order.answers)).1
         (slot_of f sought.0) (record { time = f.time; value = false_answer }) b.after refl refl refl

@@ -15,7 +15,7 @@ use Rattle.record.specs.Record.{fail_answer}
 use Rattle.record.specs.declared.Address.{Address}
 use Rattle.table.specs.History.{Answer, Operation, Set, History, Slot, Stands, NeverFalls, NoneTwice, becomes, worked, SameAnswers, Order}
 use Rattle.table.specs.Joined.{answer_later, shifted, slot_later, StartsWhere, followed_by}
-use Rattle.table.proofs.Laws.Lists.{mapped-from, mapped}
+use Rattle.table.proofs.Laws.Lists.{mapped_from, mapped}
 use Rattle.table.proofs.Order.Replay.{falls_never_joined, none_twice_joined, IsSet, Replays, replays_joined}
 
 -- ---- sets
@@ -32,26 +32,26 @@ same_set s s' is is' = λ i a. same_test (s a) (s' a) (λ q. (is' a).1 ((is a).0
 -- ---- slots that are later
 
 module _ (k : ℕ) where
-  never-falls-later : (from later : ℕ) (l : List Slot) → later ≤ k + from → NeverFalls from l → NeverFalls later (map (slot_later k) l)
-  never-falls-later from later [] h f = tt
-  never-falls-later from later (s ∷ l) h f = (omega (arith, f.0), never-falls-later s.moment (k + s.moment) l (omega arith) f.1)
+  never_falls_later : (from later : ℕ) (l : List Slot) → later ≤ k + from → NeverFalls from l → NeverFalls later (map (slot_later k) l)
+  never_falls_later from later [] h f = tt
+  never_falls_later from later (s ∷ l) h f = (omega (arith, f.0), never_falls_later s.moment (k + s.moment) l (omega arith) f.1)
 
-  none-twice-later : (l : List Slot) → NoneTwice l → NoneTwice (map (slot_later k) l)
-  none-twice-later [] n = tt
-  none-twice-later (s ∷ l) n = (
-    (λ u m q. let z = mapped-from (slot_later k) l m in n.0 z.0 z.1 (omega (arith, q, ap (λ s. s.request) z.2))),
-    none-twice-later l n.1,
+  none_twice_later : (l : List Slot) → NoneTwice l → NoneTwice (map (slot_later k) l)
+  none_twice_later [] n = tt
+  none_twice_later (s ∷ l) n = (
+    (λ u m q. let z = mapped_from (slot_later k) l m in n.0 z.0 z.1 (omega (arith, q, ap (λ s. s.request) z.2))),
+    none_twice_later l n.1,
   )
 
-  worked-later : (s : Set) (l : List Slot) → worked s (map (slot_later k) l) ≡ worked s l
-  worked-later s [] = refl
-  worked-later s (u ∷ l) = worked-later (becomes u.operation.kind u.operation.address s) l
+  worked_later : (s : Set) (l : List Slot) → worked s (map (slot_later k) l) ≡ worked s l
+  worked_later s [] = refl
+  worked_later s (u ∷ l) = worked_later (becomes u.operation.kind u.operation.address s) l
 
-  same-answers-later : (s : Set) (l : List Slot) → SameAnswers s l → SameAnswers s (map (slot_later k) l)
-  same-answers-later s [] a = tt
-  same-answers-later s (u ∷ l) a = (
+  same_answers_later : (s : Set) (l : List Slot) → SameAnswers s l → SameAnswers s (map (slot_later k) l)
+  same_answers_later s [] a = tt
+  same_answers_later s (u ∷ l) a = (
     (λ v h. let z = (map-eq-some_iff (answer_later k) u.operation.answer).0 h in sym (ap (λ v. v.value) z.2) ∙ a.0 z.0 z.1),
-    same-answers-later (becomes u.operation.kind u.operation.address s) l a.1,
+    same_answers_later (becomes u.operation.kind u.operation.address s) l a.1,
   )
 
 -- ---- the two orders
@@ -60,26 +60,26 @@ module _ (H H' : History) (starts : StartsWhere H H') (o : Order H) (o' : Order 
   abbrev k : ℕ
   k = H.events
 
-  asked-first : (r : ℕ) → r < H.events → (followed_by H H').asked r ≡ H.asked r
-  asked-first r l = rw (lt-ltb r H.events l) refl
+  asked_first : (r : ℕ) → r < H.events → (followed_by H H').asked r ≡ H.asked r
+  asked_first r l = rw (lt-ltb r H.events l) refl
 
-  asked-second : (r : ℕ) → H.events ≤ r → (followed_by H H').asked r ≡ Option.map (shifted H.events) (H'.asked (r - H.events))
-  asked-second r l = rw (le-ltb r H.events l) refl
+  asked_second : (r : ℕ) → H.events ≤ r → (followed_by H H').asked r ≡ Option.map (shifted H.events) (H'.asked (r - H.events))
+  asked_second r l = rw (le-ltb r H.events l) refl
 
-  abbrev pub slotsJoined : List Slot
-  slotsJoined = o.slots ++ map (slot_later H.events) o'.slots
+  abbrev pub slots_joined : List Slot
+  slots_joined = o.slots ++ map (slot_later H.events) o'.slots
 
-  first-stands : (s : Slot) → Stands H s → Stands (followed_by H H') s
-  first-stands s x = record {
-    asked = asked-first s.request (omega (arith, x.begun, x.there)) ∙ x.asked;
+  first_stands : (s : Slot) → Stands H s → Stands (followed_by H H') s
+  first_stands s x = record {
+    asked = asked_first s.request (omega (arith, x.begun, x.there)) ∙ x.asked;
     begun = x.begun;
     there = omega (arith, x.there);
     ended = x.ended;
   }
 
-  second-stands : (s : Slot) → Stands H' s → Stands (followed_by H H') (slot_later k s)
-  second-stands s x = let back : k + s.request - k ≡ s.request = omega arith in record {
-    asked = asked-second (k + s.request) (omega arith) ∙ rw (back, x.asked) refl;
+  second_stands : (s : Slot) → Stands H' s → Stands (followed_by H H') (slot_later k s)
+  second_stands s x = let back : k + s.request - k ≡ s.request = omega arith in record {
+    asked = asked_second (k + s.request) (omega arith) ∙ rw (back, x.asked) refl;
     begun = omega (arith, x.begun);
     there = omega (arith, x.there);
     ended = λ v h. let z = (map-eq-some_iff (answer_later k) s.operation.answer).0 h in
@@ -87,56 +87,56 @@ module _ (H H' : History) (starts : StartsWhere H H') (o : Order H) (o' : Order 
         (omega (arith, e.0, ap (λ v. v.time) z.2), λ f. e.1 (ap (λ v. v.value) z.2 ∙ f));
   }
 
-  stand-joined : (s : Slot) → Memᴰ s slotsJoined → Stands (followed_by H H') s
-  stand-joined s m = elim (Memᴰ.append_cases o.slots m) [
-    | inl n ↦ first-stands s (o.stand s n)
-    | inr n ↦ let z = mapped-from (slot_later k) o'.slots n in rw z.2 at (second-stands z.0 (o'.stand z.0 z.1))
+  stand_joined : (s : Slot) → Memᴰ s slots_joined → Stands (followed_by H H') s
+  stand_joined s m = elim (Memᴰ.append_cases o.slots m) [
+    | inl n ↦ first_stands s (o.stand s n)
+    | inr n ↦ let z = mapped_from (slot_later k) o'.slots n in rw z.2 at (second_stands z.0 (o'.stand z.0 z.1))
   ]
 
   abbrev InJoined : (r : ℕ) → Operation → Type 0
-  InJoined r p = (t : ℕ) × Memᴰ (record { request = r; operation = p; moment = t }) slotsJoined
+  InJoined r p = (t : ℕ) × Memᴰ (record { request = r; operation = p; moment = t }) slots_joined
 
   -- an operation of the second, answered true or false
-  second-whole : (r : ℕ) (p : Operation) (v : Answer) → H'.asked r ≡ some p → p.answer ≡ some v → v.value ≢ fail_answer → InJoined (k + r) (shifted k p)
-  second-whole r p v a h n = let z = o'.whole r p v a h n in
+  second_whole : (r : ℕ) (p : Operation) (v : Answer) → H'.asked r ≡ some p → p.answer ≡ some v → v.value ≢ fail_answer → InJoined (k + r) (shifted k p)
+  second_whole r p v a h n = let z = o'.whole r p v a h n in
       (k + z.0, Memᴰ.append_right o.slots (mapped (slot_later k) o'.slots z.1 refl))
 
-  whole-joined : (r : ℕ) (p : Operation) (v : Answer) → (followed_by H H').asked r ≡ some p → p.answer ≡ some v → v.value ≢ fail_answer → InJoined r p
-  whole-joined r p v a h n = elim (dec_lt r k) [ yes l ↦ first l | no l ↦ second (omega arith) ]
+  whole_joined : (r : ℕ) (p : Operation) (v : Answer) → (followed_by H H').asked r ≡ some p → p.answer ≡ some v → v.value ≢ fail_answer → InJoined r p
+  whole_joined r p v a h n = elim (dec_lt r k) [ yes l ↦ first l | no l ↦ second (omega arith) ]
     where
       first : r < k → InJoined r p
-      first l = let z = o.whole r p v (sym (asked-first r l) ∙ a) h n in (z.0, Memᴰ.append_left (map (slot_later k) o'.slots) z.1)
+      first l = let z = o.whole r p v (sym (asked_first r l) ∙ a) h n in (z.0, Memᴰ.append_left (map (slot_later k) o'.slots) z.1)
 
       second : k ≤ r → InJoined r p
       second l =
-          let x = (map-eq-some_iff (shifted k) (H'.asked (r - k))).0 (sym (asked-second r l) ∙ a) in
+          let x = (map-eq-some_iff (shifted k) (H'.asked (r - k))).0 (sym (asked_second r l) ∙ a) in
           let y = (map-eq-some_iff (answer_later k) x.0.answer).0 (ap (λ p. p.answer) x.2 ∙ h) in
           let back : k + (r - k) ≡ r = omega arith in
-          rw (back, x.2) at (second-whole (r - k) x.0 y.0 x.1 y.1 (λ f. n (sym (ap (λ v. v.value) y.2) ∙ f)))
+          rw (back, x.2) at (second_whole (r - k) x.0 y.0 x.1 y.1 (λ f. n (sym (ap (λ v. v.value) y.2) ∙ f)))
 
-  replayed : Replays H.start slotsJoined H'.finish
+  replayed : Replays H.start slots_joined H'.finish
   replayed = replays_joined H.start o.slots (map (slot_later k) o'.slots) H.finish H'.finish
       (record { same = o.answers; is = o.ends })
       (λ s is. subst (λ s. Replays s (map (slot_later k) o'.slots) H'.finish) (same_set H'.start s starts is) (record {
-        same = same-answers-later k H'.start o'.slots o'.answers;
-        is = rw (worked-later k H'.start o'.slots) o'.ends;
+        same = same_answers_later k H'.start o'.slots o'.answers;
+        is = rw (worked_later k H'.start o'.slots) o'.ends;
       }))
 
-  pub orders-join : Order (followed_by H H')
-  orders-join = record {
-    slots = slotsJoined;
-    stand = stand-joined;
+  pub orders_join : Order (followed_by H H')
+  orders_join = record {
+    slots = slots_joined;
+    stand = stand_joined;
     rising = falls_never_joined 0 k o.slots (map (slot_later k) o'.slots) o.rising (omega arith) (λ s m. (o.stand s m).there)
-        (never-falls-later k 0 k o'.slots (omega arith) o'.rising);
-    once = none_twice_joined o.slots (map (slot_later k) o'.slots) o.once (none-twice-later k o'.slots o'.once)
-        (λ u v m n q. let z = mapped-from (slot_later k) o'.slots n in
+        (never_falls_later k 0 k o'.slots (omega arith) o'.rising);
+    once = none_twice_joined o.slots (map (slot_later k) o'.slots) o.once (none_twice_later k o'.slots o'.once)
+        (λ u v m n q. let z = mapped_from (slot_later k) o'.slots n in
         let s = o.stand u m in absurd (omega (arith, s.begun, s.there, ap (λ s. s.request) z.2)));
-    whole = whole-joined;
+    whole = whole_joined;
     answers = replayed.same;
     ends = replayed.is;
   }
 
   -- it is the first order, then the second, later
-  pub joined-slots : orders-join.slots ≡ o.slots ++ map (slot_later H.events) o'.slots
-  unfolding orders-join
-  joined-slots = refl
+  pub joined_slots : orders_join.slots ≡ o.slots ++ map (slot_later H.events) o'.slots
+  unfolding orders_join
+  joined_slots = refl

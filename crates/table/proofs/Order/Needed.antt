@@ -60,30 +60,30 @@ module _ (p q : Process) (a : Address) where
   abbrev seeking : Operation
   seeking = record { process = q; kind = find; address = a; answer = some (record { time = 3; value = false_answer }) }
 
-  abbrev pub insertThenFind : History
-  insertThenFind = record {
+  abbrev pub insert_then_find : History
+  insert_then_find = record {
     asked = λ n. get_or (some insertion ∷ none ∷ some seeking ∷ []) n none;
     events = 4;
     start = λ x. false;
     finish = λ x. x.0 ≡ a.0;
   }
 
-  no-delete : (r : ℕ) (o : Operation) → insertThenFind.asked r ≡ some o → o.kind ≢ delete
-  no-delete zero o e k = let z : ◌≡◌ {A = ℕ} 0 1 = cc in absurd (omega arith)
-  no-delete (suc zero) o e k = let z : ◌≡◌ {A = ℕ} 0 1 = cc in absurd (omega arith)
-  no-delete (suc (suc zero)) o e k = let z : ◌≡◌ {A = ℕ} 0 1 = cc in absurd (omega arith)
-  no-delete (suc (suc (suc n))) o e k = let z : ◌≡◌ {A = ℕ} 0 1 = cc in absurd (omega arith)
+  no_delete : (r : ℕ) (o : Operation) → insert_then_find.asked r ≡ some o → o.kind ≢ delete
+  no_delete zero o e k = let z : ◌≡◌ {A = ℕ} 0 1 = cc in absurd (omega arith)
+  no_delete (suc zero) o e k = let z : ◌≡◌ {A = ℕ} 0 1 = cc in absurd (omega arith)
+  no_delete (suc (suc zero)) o e k = let z : ◌≡◌ {A = ℕ} 0 1 = cc in absurd (omega arith)
+  no_delete (suc (suc (suc n))) o e k = let z : ◌≡◌ {A = ℕ} 0 1 = cc in absurd (omega arith)
 
-  no-order : Order insertThenFind → ⊥
-  no-order = find_after_insert_is_not_false insertThenFind no-delete a
+  no_order : Order insert_then_find → ⊥
+  no_order = find_after_insert_is_not_false insert_then_find no_delete a
       (record { request = 0; process = p; time = 1; asked = refl }) (record { request = 2; process = q; time = 3; asked = refl }) (omega arith)
 
   -- its answers, read
-  when-sought : (v : Answer) → seeking.answer ≡ some v → (v.time ≡ 3) × (v.value ≡ false_answer)
-  when-sought v h = let z = some-injective _ v h in (sym (ap (λ v. v.time) z), sym (ap (λ v. v.value) z))
+  when_sought : (v : Answer) → seeking.answer ≡ some v → (v.time ≡ 3) × (v.value ≡ false_answer)
+  when_sought v h = let z = some-injective _ v h in (sym (ap (λ v. v.time) z), sym (ap (λ v. v.value) z))
 
-  when-put : (v : Answer) → insertion.answer ≡ some v → (v.time ≡ 1) × (v.value ≡ true_answer)
-  when-put v h = let z = some-injective _ v h in (sym (ap (λ v. v.time) z), sym (ap (λ v. v.value) z))
+  when_put : (v : Answer) → insertion.answer ≡ some v → (v.time ≡ 1) × (v.value ≡ true_answer)
+  when_put v h = let z = some-injective _ v h in (sym (ap (λ v. v.time) z), sym (ap (λ v. v.value) z))
 
   -- ---- the find, then the insert, at moments of our choice
 
@@ -94,7 +94,7 @@ module _ (p q : Process) (a : Address) where
     abbrev second : Slot
     second = record { request = 0; operation = insertion; moment = put }
 
-    whole : (r : ℕ) (o : Operation) (v : Answer) → insertThenFind.asked r ≡ some o → o.answer ≡ some v → v.value ≢ fail_answer
+    whole : (r : ℕ) (o : Operation) (v : Answer) → insert_then_find.asked r ≡ some o → o.answer ≡ some v → v.value ≢ fail_answer
         → (t : ℕ) × Memᴰ (record { request = r; operation = o; moment = t }) (first ∷ second ∷ [])
     whole zero o v e h n =
         (put, Memᴰ.tail (Memᴰ.head (ap (λ o. record { request = 0; operation = o; moment = put }) (sym (some-injective _ o e)))))
@@ -107,7 +107,7 @@ module _ (p q : Process) (a : Address) where
     ends x = ((λ e. eqb-true x.0 a.0 (rw (or-false (eqb x.0 a.0)) at e)), (λ e. rw (eq-eqb x.0 a.0 e) refl))
 
     almost : (Standing : Slot → Type 0) (Rising : List Slot → Type 0) → Standing first → Standing second → Rising (first ∷ second ∷ [])
-        → OrderWith insertThenFind Standing Rising
+        → OrderWith insert_then_find Standing Rising
     almost Standing Rising x y rising = record {
       slots = first ∷ second ∷ [];
       stand = λ s m. elim (Memᴰ.cases_cons m) [
@@ -120,66 +120,66 @@ module _ (p q : Process) (a : Address) where
         ((λ u m e. Memᴰ.not-nil m), tt),
       );
       whole = whole;
-      answers = ((λ v h. (when-sought v h).1), ((λ v h. (when-put v h).1), tt));
+      answers = ((λ v h. (when_sought v h).1), ((λ v h. (when_put v h).1), tt));
       ends = ends;
     }
 
   -- ---- each of the three is needed
 
   -- without `rising`: the find at moment 3, the insert at moment 1
-  pub rising-is-needed : OrderWith insertThenFind (Stands insertThenFind) (λ slots. Unit {0}) × (Order insertThenFind → ⊥)
-  rising-is-needed = (
-    almost 3 1 (Stands insertThenFind) (λ slots. Unit {0})
+  pub rising_is_needed : OrderWith insert_then_find (Stands insert_then_find) (λ slots. Unit {0}) × (Order insert_then_find → ⊥)
+  rising_is_needed = (
+    almost 3 1 (Stands insert_then_find) (λ slots. Unit {0})
         (record {
           asked = refl;
           begun = omega arith;
           there = omega arith;
-          ended = λ v h. let z = when-sought v h in (omega (arith, z.0), λ f. absurd (omega (arith, z.1)));
+          ended = λ v h. let z = when_sought v h in (omega (arith, z.0), λ f. absurd (omega (arith, z.1)));
         })
         (record {
           asked = refl;
           begun = omega arith;
           there = omega arith;
-          ended = λ v h. let z = when-put v h in (omega (arith, z.0), λ f. absurd (omega (arith, z.1)));
+          ended = λ v h. let z = when_put v h in (omega (arith, z.0), λ f. absurd (omega (arith, z.1)));
         })
         tt,
-    no-order,
+    no_order,
   )
 
   -- without `begun`: both at moment 1, the find before its request
-  pub begun-is-needed : OrderWith insertThenFind (StandsUnbegun insertThenFind) (NeverFalls 0) × (Order insertThenFind → ⊥)
-  begun-is-needed = (
-    almost 1 1 (StandsUnbegun insertThenFind) (NeverFalls 0)
+  pub begun_is_needed : OrderWith insert_then_find (StandsUnbegun insert_then_find) (NeverFalls 0) × (Order insert_then_find → ⊥)
+  begun_is_needed = (
+    almost 1 1 (StandsUnbegun insert_then_find) (NeverFalls 0)
         (record {
           asked = refl;
           there = omega arith;
-          ended = λ v h. let z = when-sought v h in (omega (arith, z.0), λ f. absurd (omega (arith, z.1)));
+          ended = λ v h. let z = when_sought v h in (omega (arith, z.0), λ f. absurd (omega (arith, z.1)));
         })
         (record {
           asked = refl;
           there = omega arith;
-          ended = λ v h. let z = when-put v h in (omega (arith, z.0), λ f. absurd (omega (arith, z.1)));
+          ended = λ v h. let z = when_put v h in (omega (arith, z.0), λ f. absurd (omega (arith, z.1)));
         })
         (omega arith, (omega arith, tt)),
-    no-order,
+    no_order,
   )
 
   -- without `ended`: both at moment 3, the insert after its answer
-  pub ended-is-needed : OrderWith insertThenFind (StandsUnended insertThenFind) (NeverFalls 0) × (Order insertThenFind → ⊥)
-  ended-is-needed = (
-    almost 3 3 (StandsUnended insertThenFind) (NeverFalls 0)
+  pub ended_is_needed : OrderWith insert_then_find (StandsUnended insert_then_find) (NeverFalls 0) × (Order insert_then_find → ⊥)
+  ended_is_needed = (
+    almost 3 3 (StandsUnended insert_then_find) (NeverFalls 0)
         (record {
           asked = refl;
           begun = omega arith;
           there = omega arith;
-          not_failed = λ v h f. absurd (omega (arith, (when-sought v h).1));
+          not_failed = λ v h f. absurd (omega (arith, (when_sought v h).1));
         })
         (record {
           asked = refl;
           begun = omega arith;
           there = omega arith;
-          not_failed = λ v h f. absurd (omega (arith, (when-put v h).1));
+          not_failed = λ v h f. absurd (omega (arith, (when_put v h).1));
         })
         (omega arith, (omega arith, tt)),
-    no-order,
+    no_order,
   )

@@ -15,10 +15,10 @@ use lib.Dec.{eqb}
 use Rattle.record.specs.Record.{true_answer, fail_answer}
 use Rattle.table.proofs.Common.{none}
 use Rattle.table.specs.History.{Kind, insert, delete, find, Answer, Operation, Set, History, Slot, Stands, NeverFalls, NoneTwice, Order}
-use Rattle.basics.proofs.Tests.{if-eq, none_or_some}
+use Rattle.basics.proofs.Tests.{if_eq, none_or_some}
 use Rattle.table.proofs.Order.Needs.{AnswerTells, Witness, Adds, Removes, Change, still, by, IsBy, Supplies}
 use Rattle.table.proofs.Order.Replay.{falls_never_joined, falls_never_at, none_twice_joined, IsSet, Replays, replays_none, replays_joined}
-use Rattle.table.proofs.Order.Replay.{told-says, told-stays, insert-adds, delete-removes}
+use Rattle.table.proofs.Order.Replay.{told_says, told_stays, insert_adds, delete_removes}
 
 none_some : {A X : Type 0} (x : Option A) (a : A) → x ≡ none → x ≡ some a → X
 none_some x a p q = let z : ◌≡◌ {A = ℕ} 0 1 = cc in absurd (omega arith)
@@ -92,14 +92,14 @@ module _ (H : History) (S : Supplies H) where
 
   -- ---- the order
 
-  abbrev readAt : (w : ℕ) {r : ℕ} → Role r → List Slot
-  readAt w {r = r} (reads x) = cond (eqb x.witness.moment w) (slot r x.operation w ∷ []) []
-  readAt w (other f) = []
+  abbrev read_at : (w : ℕ) {r : ℕ} → Role r → List Slot
+  read_at w {r = r} (reads x) = cond (eqb x.witness.moment w) (slot r x.operation w ∷ []) []
+  read_at w (other f) = []
 
   -- the readers at moment w among the requests below k
   readers : (k w : ℕ) → List Slot
   readers zero w = []
-  readers (suc k) w = readers k w ++ readAt w (role k)
+  readers (suc k) w = readers k w ++ read_at w (role k)
 
   abbrev block : (t : ℕ) → t < T → List Slot
   block t l = changed (S.change t l) ++ readers T (suc t)
@@ -119,10 +119,10 @@ module _ (H : History) (S : Supplies H) where
     moment : s.moment ≡ suc t
     how : ((l : t < T) × IsBy (S.change t l) s.request) ⊎ ReadsAt (suc t) (role s.request)
 
-  changed-fits : (t : ℕ) → t < T → (c : Change H S.held t) (s : Slot) → Memᴰ s (changed c)
+  changed_fits : (t : ℕ) → t < T → (c : Change H S.held t) (s : Slot) → Memᴰ s (changed c)
       → Stands H s × (s.moment ≡ suc t) × IsBy c s.request
-  changed-fits t l (still same) s m = absurd (Memᴰ.not-nil m)
-  changed-fits t l (by r o c) s m = let q = Memᴰ.eq_of_singleton m in (
+  changed_fits t l (still same) s m = absurd (Memᴰ.not-nil m)
+  changed_fits t l (by r o c) s m = let q = Memᴰ.eq_of_singleton m in (
     rw q (record {
       asked = c.asked;
       begun = omega (arith, c.begun);
@@ -133,9 +133,9 @@ module _ (H : History) (S : Supplies H) where
     sym (ap (λ s. s.request) q),
   )
 
-  read_fits : (w r : ℕ) (x : Role r) (s : Slot) → Memᴰ s (readAt w x) → Stands H s × (s.moment ≡ w) × (s.request ≡ r) × ReadsAt w x
+  read_fits : (w r : ℕ) (x : Role r) (s : Slot) → Memᴰ s (read_at w x) → Stands H s × (s.moment ≡ w) × (s.request ≡ r) × ReadsAt w x
   read_fits w r (other f) s = λ m. absurd (Memᴰ.not-nil m)
-  read_fits w r (reads x) s = if-eq (λ l. Memᴰ s l → Stands H s × (s.moment ≡ w) × (s.request ≡ r) × (x.witness.moment ≡ w))
+  read_fits w r (reads x) s = if_eq (λ l. Memᴰ s l → Stands H s × (s.moment ≡ w) × (s.request ≡ r) × (x.witness.moment ≡ w))
       x.witness.moment w
       (λ e m. let q : s ≡ slot r x.operation w = Memᴰ.eq_of_singleton m in (
         rw q (record {
@@ -153,35 +153,35 @@ module _ (H : History) (S : Supplies H) where
       ))
       (λ n m. absurd (Memᴰ.not-nil m))
 
-  readers-fit : (k w : ℕ) (s : Slot) → Memᴰ s (readers k w) → Stands H s × (s.moment ≡ w) × (s.request < k) × ReadsAt w (role s.request)
+  readers_fit : (k w : ℕ) (s : Slot) → Memᴰ s (readers k w) → Stands H s × (s.moment ≡ w) × (s.request < k) × ReadsAt w (role s.request)
   unfolding readers
-  readers-fit zero w s m = absurd (Memᴰ.not-nil m)
-  readers-fit (suc k) w s m = elim (Memᴰ.append_cases (readers k w) m) [
-    | inl n ↦ let z = readers-fit k w s n in (z.0, z.1, omega (arith, z.2), z.3)
+  readers_fit zero w s m = absurd (Memᴰ.not-nil m)
+  readers_fit (suc k) w s m = elim (Memᴰ.append_cases (readers k w) m) [
+    | inl n ↦ let z = readers_fit k w s n in (z.0, z.1, omega (arith, z.2), z.3)
     | inr n ↦ let z = read_fits w k (role k) s n in (z.0, z.1, omega (arith, z.2), rw z.2 z.3)
   ]
 
   block_fits : (t : ℕ) (l : t < T) (s : Slot) → Memᴰ s (block t l) → Fits t s
   block_fits t l s m = elim (Memᴰ.append_cases (changed (S.change t l)) m) [
-    | inl n ↦ let z = changed-fits t l (S.change t l) s n in record { stands = z.0; moment = z.1; how = inl (l, z.2) }
-    | inr n ↦ let z = readers-fit T (suc t) s n in record { stands = z.0; moment = z.1; how = inr z.3 }
+    | inl n ↦ let z = changed_fits t l (S.change t l) s n in record { stands = z.0; moment = z.1; how = inl (l, z.2) }
+    | inr n ↦ let z = readers_fit T (suc t) s n in record { stands = z.0; moment = z.1; how = inr z.3 }
   ]
 
-  order-fits : (t : ℕ) (l : t ≤ T) (s : Slot) → Memᴰ s (order t l) → (t' : ℕ) × (t' < t) × Fits t' s
+  order_fits : (t : ℕ) (l : t ≤ T) (s : Slot) → Memᴰ s (order t l) → (t' : ℕ) × (t' < t) × Fits t' s
   unfolding order
-  order-fits zero l s m = absurd (Memᴰ.not-nil m)
-  order-fits (suc t) l s m = elim (Memᴰ.append_cases (order t (earlier l)) m) [
-    | inl n ↦ let z = order-fits t (earlier l) s n in (z.0, omega (arith, z.1), z.2)
+  order_fits zero l s m = absurd (Memᴰ.not-nil m)
+  order_fits (suc t) l s m = elim (Memᴰ.append_cases (order t (earlier l)) m) [
+    | inl n ↦ let z = order_fits t (earlier l) s n in (z.0, omega (arith, z.1), z.2)
     | inr n ↦ (t, omega arith, block_fits t l s n)
   ]
 
   -- ---- no operation twice
 
   -- an operation that takes effect has no witness
-  not-both : {t : ℕ} (w r : ℕ) (c : Change H S.held t) (x : Role r) → IsBy c r → ReadsAt w x → ⊥
-  not-both w r c (other f) b z = z
-  not-both w r (still same) (reads x) b z = b
-  not-both {t} w r (by r' o c) (reads x) b z =
+  not_both : {t : ℕ} (w r : ℕ) (c : Change H S.held t) (x : Role r) → IsBy c r → ReadsAt w x → ⊥
+  not_both w r c (other f) b z = z
+  not_both w r (still same) (reads x) b z = b
+  not_both {t} w r (by r' o c) (reads x) b z =
       told_not_true x.operation.kind x.answer.value _ (kind c.does) x.witness.tells
       (c.ended x.answer (ap (λ o. o.answer) same ∙ x.told)).1
     where
@@ -192,12 +192,12 @@ module _ (H : History) (S : Supplies H) where
       kind (inl y) = inl (ap (λ o. o.kind) (sym same) ∙ y.kind)
       kind (inr y) = inr (ap (λ o. o.kind) (sym same) ∙ y.kind)
 
-  reads-once : (t t' r : ℕ) (x : Role r) → ReadsAt (suc t) x → ReadsAt (suc t') x → t ≡ t'
-  reads-once t t' r (other f) y z = absurd y
-  reads-once t t' r (reads x) y z = omega arith
+  reads_once : (t t' r : ℕ) (x : Role r) → ReadsAt (suc t) x → ReadsAt (suc t') x → t ≡ t'
+  reads_once t t' r (other f) y z = absurd y
+  reads_once t t' r (reads x) y z = omega arith
 
-  fits-once : (t t' : ℕ) (s s' : Slot) → Fits t s → Fits t' s' → s.request ≡ s'.request → t ≡ t'
-  fits-once t t' s s' x y q = cases x.how (rw q y.how)
+  fits_once : (t t' : ℕ) (s s' : Slot) → Fits t s → Fits t' s' → s.request ≡ s'.request → t ≡ t'
+  fits_once t t' s s' x y q = cases x.how (rw q y.how)
     where
       r : ℕ
       r = s.request
@@ -205,41 +205,41 @@ module _ (H : History) (S : Supplies H) where
       cases : ((l : t < T) × IsBy (S.change t l) s.request) ⊎ ReadsAt (suc t) (role s.request)
           → ((l : t' < T) × IsBy (S.change t' l) s.request) ⊎ ReadsAt (suc t') (role s.request) → t ≡ t'
       cases (inl c) (inl c') = S.once t t' r c.0 c'.0 c.1 c'.1
-      cases (inl c) (inr z) = absurd (not-both (suc t') r (S.change t c.0) (role r) c.1 z)
-      cases (inr z) (inl c) = absurd (not-both (suc t) r (S.change t' c.0) (role r) c.1 z)
-      cases (inr z) (inr z') = reads-once t t' r (role r) z z'
+      cases (inl c) (inr z) = absurd (not_both (suc t') r (S.change t c.0) (role r) c.1 z)
+      cases (inr z) (inl c) = absurd (not_both (suc t) r (S.change t' c.0) (role r) c.1 z)
+      cases (inr z) (inr z') = reads_once t t' r (role r) z z'
 
-  read-once : (w r : ℕ) (x : Role r) → NoneTwice (readAt w x)
-  read-once w r (other f) = tt
-  read-once w r (reads x) = if-eq NoneTwice x.witness.moment w (λ e. ((λ u m. absurd (Memᴰ.not-nil m)), tt)) (λ n. tt)
+  read_once : (w r : ℕ) (x : Role r) → NoneTwice (read_at w x)
+  read_once w r (other f) = tt
+  read_once w r (reads x) = if_eq NoneTwice x.witness.moment w (λ e. ((λ u m. absurd (Memᴰ.not-nil m)), tt)) (λ n. tt)
 
-  readers-once : (k w : ℕ) → NoneTwice (readers k w)
+  readers_once : (k w : ℕ) → NoneTwice (readers k w)
   unfolding readers
-  readers-once zero w = tt
-  readers-once (suc k) w = none_twice_joined (readers k w) (readAt w (role k)) (readers-once k w) (read-once w k (role k))
-      (λ u v m n q. absurd (omega (arith, (readers-fit k w u m).2, (read_fits w k (role k) v n).2)))
+  readers_once zero w = tt
+  readers_once (suc k) w = none_twice_joined (readers k w) (read_at w (role k)) (readers_once k w) (read_once w k (role k))
+      (λ u v m n q. absurd (omega (arith, (readers_fit k w u m).2, (read_fits w k (role k) v n).2)))
 
-  changed-once : {t : ℕ} (c : Change H S.held t) → NoneTwice (changed c)
-  changed-once (still same) = tt
-  changed-once (by r o c) = ((λ u m. absurd (Memᴰ.not-nil m)), tt)
+  changed_once : {t : ℕ} (c : Change H S.held t) → NoneTwice (changed c)
+  changed_once (still same) = tt
+  changed_once (by r o c) = ((λ u m. absurd (Memᴰ.not-nil m)), tt)
 
-  block-once : (t : ℕ) (l : t < T) → NoneTwice (block t l)
-  block-once t l = none_twice_joined (changed (S.change t l)) (readers T (suc t)) (changed-once (S.change t l)) (readers-once T (suc t))
-      (λ u v m n q. not-both (suc t) u.request (S.change t l) (role u.request) (changed-fits t l (S.change t l) u m).2
-      (rw q at (readers-fit T (suc t) v n).3))
+  block_once : (t : ℕ) (l : t < T) → NoneTwice (block t l)
+  block_once t l = none_twice_joined (changed (S.change t l)) (readers T (suc t)) (changed_once (S.change t l)) (readers_once T (suc t))
+      (λ u v m n q. not_both (suc t) u.request (S.change t l) (role u.request) (changed_fits t l (S.change t l) u m).2
+      (rw q at (readers_fit T (suc t) v n).3))
 
-  order-once : (t : ℕ) (l : t ≤ T) → NoneTwice (order t l)
+  order_once : (t : ℕ) (l : t ≤ T) → NoneTwice (order t l)
   unfolding order
-  order-once zero l = tt
-  order-once (suc t) l = none_twice_joined (order t (earlier l)) (block t l) (order-once t (earlier l)) (block-once t l)
-      (λ u v m n q. let x = order-fits t (earlier l) u m in
-      absurd (omega (arith, x.1, fits-once x.0 t u v x.2 (block_fits t l v n) (sym q))))
+  order_once zero l = tt
+  order_once (suc t) l = none_twice_joined (order t (earlier l)) (block t l) (order_once t (earlier l)) (block_once t l)
+      (λ u v m n q. let x = order_fits t (earlier l) u m in
+      absurd (omega (arith, x.1, fits_once x.0 t u v x.2 (block_fits t l v n) (sym q))))
 
-  order-rises : (t : ℕ) (l : t ≤ T) → NeverFalls 0 (order t l)
+  order_rises : (t : ℕ) (l : t ≤ T) → NeverFalls 0 (order t l)
   unfolding order
-  order-rises zero l = tt
-  order-rises (suc t) l = falls_never_joined 0 (suc t) (order t (earlier l)) (block t l) (order-rises t (earlier l)) (omega arith)
-      (λ s m. let x = order-fits t (earlier l) s m in omega (arith, x.1, x.2.moment))
+  order_rises zero l = tt
+  order_rises (suc t) l = falls_never_joined 0 (suc t) (order t (earlier l)) (block t l) (order_rises t (earlier l)) (omega arith)
+      (λ s m. let x = order_fits t (earlier l) s m in omega (arith, x.1, x.2.moment))
       (falls_never_at (suc t) (block t l) (λ s m. (block_fits t l s m).moment))
 
   -- ---- all of them are in it
@@ -252,64 +252,64 @@ module _ (H : History) (S : Supplies H) where
     | no n ↦ Memᴰ.append_left (block t' l) (in_order t t' s (omega arith) (earlier l) m)
   ]
 
-  in-readers : (k w r : ℕ) (o : Operation) → r < k → Memᴰ (slot r o w) (readAt w (role r)) → Memᴰ (slot r o w) (readers k w)
+  in_readers : (k w r : ℕ) (o : Operation) → r < k → Memᴰ (slot r o w) (read_at w (role r)) → Memᴰ (slot r o w) (readers k w)
   unfolding readers
-  in-readers zero w r o l m = absurd (omega arith)
-  in-readers (suc k) w r o l m = elim (ℕ_discrete r k) [
-    | yes q ↦ Memᴰ.append_right (readers k w) (subst (λ k. Memᴰ (slot r o w) (readAt w (role k))) q m)
-    | no n ↦ Memᴰ.append_left (readAt w (role k)) (in-readers k w r o (omega arith) m)
+  in_readers zero w r o l m = absurd (omega arith)
+  in_readers (suc k) w r o l m = elim (ℕ_discrete r k) [
+    | yes q ↦ Memᴰ.append_right (readers k w) (subst (λ k. Memᴰ (slot r o w) (read_at w (role k))) q m)
+    | no n ↦ Memᴰ.append_left (read_at w (role k)) (in_readers k w r o (omega arith) m)
   ]
 
-  in-changed : (t r : ℕ) (o : Operation) → H.asked r ≡ some o → (c : Change H S.held t) → IsBy c r → Memᴰ (slot r o (suc t)) (changed c)
-  in-changed t r o a (still same) b = absurd b
-  in-changed t r o a (by r' o' c) b = Memᴰ.head (λ i. slot (sym b i) (some_some (H.asked r) o o' a (rw b at c.asked) i) (suc t))
+  in_changed : (t r : ℕ) (o : Operation) → H.asked r ≡ some o → (c : Change H S.held t) → IsBy c r → Memᴰ (slot r o (suc t)) (changed c)
+  in_changed t r o a (still same) b = absurd b
+  in_changed t r o a (by r' o' c) b = Memᴰ.head (λ i. slot (sym b i) (some_some (H.asked r) o o' a (rw b at c.asked) i) (suc t))
 
-  effective-in : (r : ℕ) (o : Operation) (l : T ≤ T) → H.asked r ≡ some o → Effective r → (w : ℕ) × Memᴰ (slot r o w) (order T l)
-  effective-in r o l a e = (
+  effective_in : (r : ℕ) (o : Operation) (l : T ≤ T) → H.asked r ≡ some o → Effective r → (w : ℕ) × Memᴰ (slot r o w) (order T l)
+  effective_in r o l a e = (
     suc e.0,
     in_order e.0 T _ e.1 l
-        (λ k. Memᴰ.append_left (readers T (suc e.0)) (in-changed e.0 r o a (S.change e.0 k) (rw (le_prop e.1 k) at e.2))),
+        (λ k. Memᴰ.append_left (readers T (suc e.0)) (in_changed e.0 r o a (S.change e.0 k) (rw (le_prop e.1 k) at e.2))),
   )
 
-  in-read : (w r : ℕ) (o : Operation) (x : Role r) → H.asked r ≡ some o → ReadsAt w x → Memᴰ (slot r o w) (readAt w x)
-  in-read w r o (other f) a z = absurd z
-  in-read w r o (reads x) a z = if-eq (Memᴰ (slot r o w)) x.witness.moment w
+  in_read : (w r : ℕ) (o : Operation) (x : Role r) → H.asked r ≡ some o → ReadsAt w x → Memᴰ (slot r o w) (read_at w x)
+  in_read w r o (other f) a z = absurd z
+  in_read w r o (reads x) a z = if_eq (Memᴰ (slot r o w)) x.witness.moment w
       (λ e. Memᴰ.head (λ i. slot r (some_some (H.asked r) o x.operation a x.asked i) w)) (λ n. absurd (n z))
 
-  reader-in : (r w : ℕ) (o : Operation) (l : T ≤ T) → H.asked r ≡ some o → r < w → w ≤ T → ReadsAt w (role r) → Memᴰ (slot r o w) (order T l)
-  reader-in r zero o l a begun there z = absurd (omega arith)
-  reader-in r (suc t) o l a begun there z = in_order t T _ there l
-      (λ k. Memᴰ.append_right (changed (S.change t k)) (in-readers T (suc t) r o (omega arith) (in-read (suc t) r o (role r) a z)))
+  reader_in : (r w : ℕ) (o : Operation) (l : T ≤ T) → H.asked r ≡ some o → r < w → w ≤ T → ReadsAt w (role r) → Memᴰ (slot r o w) (order T l)
+  reader_in r zero o l a begun there z = absurd (omega arith)
+  reader_in r (suc t) o l a begun there z = in_order t T _ there l
+      (λ k. Memᴰ.append_right (changed (S.change t k)) (in_readers T (suc t) r o (omega arith) (in_read (suc t) r o (role r) a z)))
 
-  order-whole : (l : T ≤ T) (r : ℕ) (o : Operation) (v : Answer) → H.asked r ≡ some o → o.answer ≡ some v → v.value ≢ fail_answer
+  order_whole : (l : T ≤ T) (r : ℕ) (o : Operation) (v : Answer) → H.asked r ≡ some o → o.answer ≡ some v → v.value ≢ fail_answer
       → (w : ℕ) × Memᴰ (slot r o w) (order T l)
-  order-whole l r o v a h n = cases (role r) refl
+  order_whole l r o v a h n = cases (role r) refl
     where
       cases : (x : Role r) → role r ≡ x → (w : ℕ) × Memᴰ (slot r o w) (order T l)
-      cases (other f) q = effective-in r o l a (f o v a h n)
-      cases (reads x) q = (x.witness.moment, reader-in r x.witness.moment o l a x.witness.begun x.witness.there (rw q refl))
+      cases (other f) q = effective_in r o l a (f o v a h n)
+      cases (reads x) q = (x.witness.moment, reader_in r x.witness.moment o l a x.witness.begun x.witness.there (rw q refl))
 
   -- ---- the replay
 
-  changed-replays : (t : ℕ) (c : Change H S.held t) (s : Set) → IsSet s (S.held t) → Replays s (changed c) (S.held (suc t))
-  changed-replays t (still same) s is = record { same = tt; is = λ a. Iff.trans (is a) (Iff.symm (same a)) }
-  changed-replays t (by r o c) s is = elim c.does [
-    | inl x ↦ let z = insert-adds s o.address S.held t is o.kind x.kind x.free x.adds in
+  changed_replays : (t : ℕ) (c : Change H S.held t) (s : Set) → IsSet s (S.held t) → Replays s (changed c) (S.held (suc t))
+  changed_replays t (still same) s is = record { same = tt; is = λ a. Iff.trans (is a) (Iff.symm (same a)) }
+  changed_replays t (by r o c) s is = elim c.does [
+    | inl x ↦ let z = insert_adds s o.address S.held t is o.kind x.kind x.free x.adds in
         record { same = ((λ v h. (c.ended v h).1 ∙ sym z.0), tt); is = z.1 }
-    | inr x ↦ let z = delete-removes s o.address S.held t is o.kind x.kind x.taken x.removes in
+    | inr x ↦ let z = delete_removes s o.address S.held t is o.kind x.kind x.taken x.removes in
         record { same = ((λ v h. (c.ended v h).1 ∙ sym z.0), tt); is = z.1 }
   ]
 
-  read-replays : (w r : ℕ) (x : Role r) (s : Set) → IsSet s (S.held w) → Replays s (readAt w x) (S.held w)
-  read-replays w r (other f) s is = replays_none s is
-  read-replays w r (reads x) s is = if-eq (λ l. Replays s l (S.held w)) x.witness.moment w
+  read_replays : (w r : ℕ) (x : Role r) (s : Set) → IsSet s (S.held w) → Replays s (read_at w x) (S.held w)
+  read_replays w r (other f) s is = replays_none s is
+  read_replays w r (reads x) s is = if_eq (λ l. Replays s l (S.held w)) x.witness.moment w
       (λ e. record {
         same = (
           (λ v h. ap (λ v. v.value) (some_some o.answer v x.answer h x.told)
-              ∙ told-says s o.address (S.held w) is o.kind x.answer.value (told e)),
+              ∙ told_says s o.address (S.held w) is o.kind x.answer.value (told e)),
           tt,
         );
-        is = told-stays s o.address (S.held w) is o.kind x.answer.value (told e);
+        is = told_stays s o.address (S.held w) is o.kind x.answer.value (told e);
       })
       (λ n. replays_none s is)
     where
@@ -319,27 +319,27 @@ module _ (H : History) (S : Supplies H) where
       told : x.witness.moment ≡ w → AnswerTells x.operation.kind x.answer.value (S.held w x.operation.address)
       told e = rw e at x.witness.tells
 
-  readers-replay : (k w : ℕ) (s : Set) → IsSet s (S.held w) → Replays s (readers k w) (S.held w)
+  readers_replay : (k w : ℕ) (s : Set) → IsSet s (S.held w) → Replays s (readers k w) (S.held w)
   unfolding readers
-  readers-replay zero w s is = replays_none s is
-  readers-replay (suc k) w s is =
-      replays_joined s (readers k w) (readAt w (role k)) (S.held w) (S.held w) (readers-replay k w s is) (read-replays w k (role k))
+  readers_replay zero w s is = replays_none s is
+  readers_replay (suc k) w s is =
+      replays_joined s (readers k w) (read_at w (role k)) (S.held w) (S.held w) (readers_replay k w s is) (read_replays w k (role k))
 
   -- after moment t the plain set is what is held at t
-  order-replays : (t : ℕ) (l : t ≤ T) → Replays H.start (order t l) (S.held t)
+  order_replays : (t : ℕ) (l : t ≤ T) → Replays H.start (order t l) (S.held t)
   unfolding order
-  order-replays zero l = replays_none H.start S.begins
-  order-replays (suc t) l = replays_joined H.start (order t (earlier l)) (block t l) (S.held t) (S.held (suc t)) (order-replays t (earlier l))
+  order_replays zero l = replays_none H.start S.begins
+  order_replays (suc t) l = replays_joined H.start (order t (earlier l)) (block t l) (S.held t) (S.held (suc t)) (order_replays t (earlier l))
       (λ s is. replays_joined s (changed (S.change t l)) (readers T (suc t)) (S.held (suc t)) (S.held (suc t))
-      (changed-replays t (S.change t l) s is) (readers-replay T (suc t)))
+      (changed_replays t (S.change t l) s is) (readers_replay T (suc t)))
 
   pub ordered : Order H
   ordered = let l : T ≤ T = omega arith in record {
     slots = order T l;
-    stand = λ s m. (order-fits T l s m).2.stands;
-    rising = order-rises T l;
-    once = order-once T l;
-    whole = order-whole l;
-    answers = (order-replays T l).same;
-    ends = λ a. Iff.trans ((order-replays T l).is a) (S.finishes a);
+    stand = λ s m. (order_fits T l s m).2.stands;
+    rising = order_rises T l;
+    once = order_once T l;
+    whole = order_whole l;
+    answers = (order_replays T l).same;
+    ends = λ a. Iff.trans ((order_replays T l).is a) (S.finishes a);
   }

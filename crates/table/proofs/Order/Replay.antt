@@ -81,8 +81,8 @@ module _ (s : Set) (a : Address) where
       from (inl e) = rw (eq-eqb x.0 a.0 e) refl
       from (inr q) = rw q (or-true (eqb x.0 a.0))
 
-  in-deleted : (x : Address) → (becomes delete a s x ≡ true) ↔ ((x.0 ≢ a.0) × (s x ≡ true))
-  in-deleted x = (into (ℕ_discrete x.0 a.0), λ q. rw (ne_eqb x.0 a.0 q.0) q.1)
+  in_deleted : (x : Address) → (becomes delete a s x ≡ true) ↔ ((x.0 ≢ a.0) × (s x ≡ true))
+  in_deleted x = (into (ℕ_discrete x.0 a.0), λ q. rw (ne_eqb x.0 a.0 q.0) q.1)
     where
       into : Dec (x.0 ≡ a.0) → (not (eqb x.0 a.0) && s x) ≡ true → (x.0 ≢ a.0) × (s x ≡ true)
       into (yes e) q = absurd (false≢true (rw (eq-eqb x.0 a.0 e) at q))
@@ -92,30 +92,30 @@ module _ (s : Set) (a : Address) where
     out : (P a → ⊥) → s a ≡ false
     out h = not_true_false (s a) (λ q. h ((is a).0 q))
 
-    pub told-says : (k : Kind) (v : ℕ) → AnswerTells k v (P a) → v ≡ says k a s
-    told-says insert v z = z.0 ∙ (rw ((is a).1 z.1) refl)
-    told-says delete v z = z.0 ∙ (rw (out z.1) refl)
-    told-says find v (inl z) = z.0 ∙ (rw ((is a).1 z.1) refl)
-    told-says find v (inr z) = z.0 ∙ (rw (out z.1) refl)
+    pub told_says : (k : Kind) (v : ℕ) → AnswerTells k v (P a) → v ≡ says k a s
+    told_says insert v z = z.0 ∙ (rw ((is a).1 z.1) refl)
+    told_says delete v z = z.0 ∙ (rw (out z.1) refl)
+    told_says find v (inl z) = z.0 ∙ (rw ((is a).1 z.1) refl)
+    told_says find v (inr z) = z.0 ∙ (rw (out z.1) refl)
 
     same_address : (x : Address) → x.0 ≡ a.0 → P a → P x
     same_address x q = subst P (λ i. record { 0 = sym q i })
 
     -- an answer that leaves the set as it is does so
-    pub told-stays : (k : Kind) (v : ℕ) → AnswerTells k v (P a) → IsSet (becomes k a s) P
-    told-stays insert v z x = (
+    pub told_stays : (k : Kind) (v : ℕ) → AnswerTells k v (P a) → IsSet (becomes k a s) P
+    told_stays insert v z x = (
       (λ q. elim ((in_inserted x).0 q) [ inl e ↦ same_address x e z.1 | inr e ↦ (is x).0 e ]),
       (λ q. (in_inserted x).1 (inr ((is x).1 q))),
     )
-    told-stays delete v z x =
-        ((λ q. (is x).0 ((in-deleted x).0 q).1), (λ q. (in-deleted x).1 ((λ e. z.1 (subst P (λ i. record { 0 = e i }) q)), (is x).1 q)))
-    told-stays find v z x = is x
+    told_stays delete v z x =
+        ((λ q. (is x).0 ((in_deleted x).0 q).1), (λ q. (in_deleted x).1 ((λ e. z.1 (subst P (λ i. record { 0 = e i }) q)), (is x).1 q)))
+    told_stays find v z x = is x
 
   -- an insert that takes effect answers true and adds exactly its address; a delete removes it
   module _ (held : ℕ → Address → Type 0) (t : ℕ) (is : IsSet s (held t)) where
-    pub insert-adds : (k : Kind) → k ≡ insert → (held t a → ⊥) → ((x : Address) → held (suc t) x ↔ ((x.0 ≡ a.0) ⊎ held t x))
+    pub insert_adds : (k : Kind) → k ≡ insert → (held t a → ⊥) → ((x : Address) → held (suc t) x ↔ ((x.0 ≡ a.0) ⊎ held t x))
         → (says k a s ≡ true_answer) × IsSet (becomes k a s) (held (suc t))
-    insert-adds k e free adds = rw e (
+    insert_adds k e free adds = rw e (
       rw (out (held t) is free) refl,
       λ x. ((λ q. (adds x).1 (into x ((in_inserted x).0 q))), (λ q. (in_inserted x).1 (from x ((adds x).0 q)))),
     )
@@ -128,12 +128,12 @@ module _ (s : Set) (a : Address) where
         from x (inl q) = inl q
         from x (inr q) = inr ((is x).1 q)
 
-    pub delete-removes : (k : Kind) → k ≡ delete → held t a → ((x : Address) → held (suc t) x ↔ ((x.0 ≢ a.0) × held t x))
+    pub delete_removes : (k : Kind) → k ≡ delete → held t a → ((x : Address) → held (suc t) x ↔ ((x.0 ≢ a.0) × held t x))
         → (says k a s ≡ true_answer) × IsSet (becomes k a s) (held (suc t))
-    delete-removes k e taken removes = rw e (
+    delete_removes k e taken removes = rw e (
       rw ((is a).1 taken) refl,
       λ x. (
-        (λ q. let z = (in-deleted x).0 q in (removes x).1 (z.0, (is x).0 z.1)),
-        (λ q. let z = (removes x).0 q in (in-deleted x).1 (z.0, (is x).1 z.1)),
+        (λ q. let z = (in_deleted x).0 q in (removes x).1 (z.0, (is x).0 z.1)),
+        (λ q. let z = (removes x).0 q in (in_deleted x).1 (z.0, (is x).1 z.1)),
       ),
     )

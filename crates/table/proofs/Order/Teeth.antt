@@ -198,25 +198,25 @@ two_deletes u v (x ∷ l) n m i k j = elim (Memᴰ.cases_cons m) [
 
 -- whoever asked, and whenever they were answered; all three may be under way at once
 module _ (p q r : Process) (a : Address) (t₀ t₁ t₂ events : ℕ) (finish : Address → Type 0) where
-  abbrev wasTrue : Process → Kind → ℕ → Option Operation
-  wasTrue p k t = some (record { process = p; kind = k; address = a; answer = some (record { time = t; value = true_answer }) })
+  abbrev was_true : Process → Kind → ℕ → Option Operation
+  was_true p k t = some (record { process = p; kind = k; address = a; answer = some (record { time = t; value = true_answer }) })
 
-  abbrev pub insertDeleteDelete : History
-  insertDeleteDelete = record {
-    asked = λ n. get_or (wasTrue p insert t₀ ∷ wasTrue q delete t₁ ∷ wasTrue r delete t₂ ∷ []) n none;
+  abbrev pub insert_delete_delete : History
+  insert_delete_delete = record {
+    asked = λ n. get_or (was_true p insert t₀ ∷ was_true q delete t₁ ∷ was_true r delete t₂ ∷ []) n none;
     events = events;
     start = λ x. false;
     finish = finish;
   }
 
-  each : (n : ℕ) (o : Operation) → insertDeleteDelete.asked n ≡ some o → TrueOf a o × (o.kind ≡ insert → n ≡ 0)
+  each : (n : ℕ) (o : Operation) → insert_delete_delete.asked n ≡ some o → TrueOf a o × (o.kind ≡ insert → n ≡ 0)
   each zero o e = (record { address = cc; time = t₀; answer = cc }, λ k. refl)
   each (suc zero) o e = (record { address = cc; time = t₁; answer = cc }, λ k. let z : ◌≡◌ {A = ℕ} 0 1 = cc in absurd (omega arith))
   each (suc (suc zero)) o e = (record { address = cc; time = t₂; answer = cc }, λ k. let z : ◌≡◌ {A = ℕ} 0 1 = cc in absurd (omega arith))
   each (suc (suc (suc n))) o e = let z : ◌≡◌ {A = ℕ} 0 1 = cc in absurd (omega arith)
 
-  pub two-releases-need-two-inserts : Order insertDeleteDelete → ⊥
-  two-releases-need-two-inserts order =
+  pub two_releases_need_two_inserts : Order insert_delete_delete → ⊥
+  two_releases_need_two_inserts order =
       let first = order.whole 1 _ _ refl refl (λ e. absurd (omega arith)) in
       let second = order.whole 2 _ _ refl refl (λ e. absurd (omega arith)) in
       omega (

@@ -36,56 +36,56 @@ module _ (σ₀ : State) (e : ℕ → Event) (k : ℕ) where
   at_from (suc t) = let q : k + suc t ≡ suc (k + t) = omega arith in
       ap (at σ₀ e) q ∙ ap (λ σ. (event σ (e (k + t))).after) (at_from t)
 
-  pub out-from : (t : ℕ) → out σ₀ e (k + t) ≡ out (at σ₀ e k) (events_from k e) t
+  pub out_from : (t : ℕ) → out σ₀ e (k + t) ≡ out (at σ₀ e k) (events_from k e) t
   unfolding out
-  out-from t = ap (λ σ. (event σ (e (k + t))).outcome) (at_from t)
+  out_from t = ap (λ σ. (event σ (e (k + t))).outcome) (at_from t)
 
   -- an answer that comes later
-  answer-at-later : (t : ℕ) (o : Outcome) → answer_at (k + t) o ≡ map (answer_later k) (answer_at t o)
-  answer-at-later t (Refused n) = refl
-  answer-at-later t Accepted = refl
-  answer-at-later t (Answered v) = refl
+  answer_at_later : (t : ℕ) (o : Outcome) → answer_at (k + t) o ≡ map (answer_later k) (answer_at t o)
+  answer_at_later t (Refused n) = refl
+  answer_at_later t Accepted = refl
+  answer_at_later t (Answered v) = refl
 
-  first-later : (v w : Option Answer) → first_of (map (answer_later k) v) (map (answer_later k) w) ≡ map (answer_later k) (first_of v w)
-  first-later none w = refl
-  first-later (some v) w = refl
+  first_later : (v w : Option Answer) → first_of (map (answer_later k) v) (map (answer_later k) w) ≡ map (answer_later k) (first_of v w)
+  first_later none w = refl
+  first_later (some v) w = refl
 
-  if-later : (b c : Bool) (v : Option Answer)
+  if_later : (b c : Bool) (v : Option Answer)
       → cond b (cond c (map (answer_later k) v) none) none ≡ map (answer_later k) (cond b (cond c v none) none)
-  if-later true true v = refl
-  if-later true false v = refl
-  if-later false c v = refl
+  if_later true true v = refl
+  if_later true false v = refl
+  if_later false c v = refl
 
-  before-later : (r t : ℕ) → ltb (k + r) (k + t) ≡ ltb r t
-  before-later r t = elim (dec_lt r t) [
+  before_later : (r t : ℕ) → ltb (k + r) (k + t) ≡ ltb r t
+  before_later r t = elim (dec_lt r t) [
     | yes l ↦ lt-ltb (k + r) (k + t) (omega arith) ∙ sym (lt-ltb r t l)
     | no l ↦ le-ltb (k + r) (k + t) (omega arith) ∙ sym (le-ltb r t (omega arith))
   ]
 
-  pub answer-from : (T r : ℕ) → answer σ₀ e (k + T) (k + r) ≡ map (answer_later k) (answer (at σ₀ e k) (events_from k e) T r)
+  pub answer_from : (T r : ℕ) → answer σ₀ e (k + T) (k + r) ≡ map (answer_later k) (answer (at σ₀ e k) (events_from k e) T r)
   unfolding answer
-  answer-from zero r = no_answer_yet σ₀ e (k + 0) (k + r) (omega arith)
-  answer-from (suc t) r =
+  answer_from zero r = no_answer_yet σ₀ e (k + 0) (k + r) (omega arith)
+  answer_from (suc t) r =
       let q : k + suc t ≡ suc (k + t) = omega arith in
       ap (λ T. answer σ₀ e T (k + r)) q
-      ∙ rw (answer-from t r, before-later r t, out-from t, answer-at-later, if-later, first-later) refl
+      ∙ rw (answer_from t r, before_later r t, out_from t, answer_at_later, if_later, first_later) refl
 
-  request-later : (p : Process) (x : Action) (v : Option Answer)
+  request_later : (p : Process) (x : Action) (v : Option Answer)
       → request_of p x (map (answer_later k) v) ≡ map (shifted k) (request_of p x v)
-  request-later p (Insert a) v = refl
-  request-later p (Delete a) v = refl
-  request-later p (Find a) v = refl
-  request-later p Step v = refl
-  request-later p Stop v = refl
-  request-later p Restart v = refl
+  request_later p (Insert a) v = refl
+  request_later p (Delete a) v = refl
+  request_later p (Find a) v = refl
+  request_later p Step v = refl
+  request_later p Stop v = refl
+  request_later p Restart v = refl
 
-  accepted-later : (o : Outcome) (v : Option Operation) → if_accepted o (map (shifted k) v) ≡ map (shifted k) (if_accepted o v)
-  accepted-later (Refused n) v = refl
-  accepted-later Accepted v = refl
-  accepted-later (Answered n) v = refl
+  accepted_later : (o : Outcome) (v : Option Operation) → if_accepted o (map (shifted k) v) ≡ map (shifted k) (if_accepted o v)
+  accepted_later (Refused n) v = refl
+  accepted_later Accepted v = refl
+  accepted_later (Answered n) v = refl
 
-  pub operation-from : (T r : ℕ) → operation σ₀ e (k + T) (k + r) ≡ map (shifted k) (operation (at σ₀ e k) (events_from k e) T r)
-  operation-from T r = rw (out-from r, answer-from T r, request-later, accepted-later) refl
+  pub operation_from : (T r : ℕ) → operation σ₀ e (k + T) (k + r) ≡ map (shifted k) (operation (at σ₀ e k) (events_from k e) T r)
+  operation_from T r = rw (out_from r, answer_from T r, request_later, accepted_later) refl
 
 -- ---- what follows a reached state is reached
 
@@ -100,8 +100,8 @@ abbrev then_events : (k : ℕ) → (e e' : ℕ → Event) → ℕ → Event
 then_events k e e' t = cond (ltb t k) (e t) (e' (t - k))
 
 module _ {σ : State} (r : Reached σ) where
-  pub reached-later : (e : ℕ → Event) → AddressesFit e → (t : ℕ) → Reached (at σ e t)
-  reached-later e fits t = record {
+  pub reached_later : (e : ℕ → Event) → AddressesFit e → (t : ℕ) → Reached (at σ e t)
+  reached_later e fits t = record {
     start = r.start;
     events = then_events k r.events e;
     quiet = r.quiet;
@@ -123,9 +123,9 @@ module _ {σ : State} (r : Reached σ) where
       rest : (s : ℕ) → then_events r.time r.events e (r.time + s) ≡ e s
       rest s = let q : k + s - k ≡ s = omega arith in rw (le-ltb (k + s) k (omega arith), q) refl
 
-  pub reached-after : (e : Event) → ((a : Address) → address_of e.action ≡ some a → a.0 < address_limit) → Reached (event σ e).after
+  pub reached_after : (e : Event) → ((a : Address) → address_of e.action ≡ some a → a.0 < address_limit) → Reached (event σ e).after
   unfolding at
-  reached-after e fits = reached-later (λ t. e) (λ t. fits) 1
+  reached_after e fits = reached_later (λ t. e) (λ t. fits) 1
 
-  pub reached-runs : (es : List Event) (d : Event) → AddressesFit (λ t. get_or es t d) → Reached (runs σ es)
-  reached-runs es d fits = subst Reached (runs_at es σ d) (reached-later (λ t. get_or es t d) fits (length es))
+  pub reached_runs : (es : List Event) (d : Event) → AddressesFit (λ t. get_or es t d) → Reached (runs σ es)
+  reached_runs es d fits = subst Reached (runs_at es σ d) (reached_later (λ t. get_or es t d) fits (length es))

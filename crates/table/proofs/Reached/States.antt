@@ -17,8 +17,8 @@ use Rattle.basics.proofs.Tests.{by-test}
 use Rattle.table.proofs.Invariant.Effects.{Orderly}
 use Rattle.table.proofs.Invariant.Played.{Played}
 use Rattle.table.proofs.Invariant.OpenOperations.{orderly}
-use Rattle.table.proofs.History.Start.{fresh-quiet}
-use Rattle.table.proofs.Reached.Listed.{orderly-listed}
+use Rattle.table.proofs.History.Start.{fresh_quiet}
+use Rattle.table.proofs.Reached.Listed.{orderly_listed}
 
 -- ---- which states are reached
 
@@ -35,7 +35,7 @@ quiet_reached {σ} quiet = record {
 }
 
 pub fresh_reached : (nodes processes : ℕ) → sizes_fit nodes processes ≡ true → Reached (fresh nodes processes)
-fresh_reached nodes processes fit = quiet_reached (fresh-quiet nodes processes fit)
+fresh_reached nodes processes fit = quiet_reached (fresh_quiet nodes processes fit)
 
 -- the run that came there
 abbrev pub played_to : {σ : State} → Reached σ → Played
@@ -44,14 +44,14 @@ played_to r = record { start = r.start; events = r.events; quiet = r.quiet; fit 
 -- ---- the chain
 
 module _ {σ : State} (r : Reached σ) where
-  pub reached-orderly : Orderly σ.memory
-  reached-orderly = subst (λ s. Orderly s.memory) r.is (orderly (played_to r) r.time)
+  pub reached_orderly : Orderly σ.memory
+  reached_orderly = subst (λ s. Orderly s.memory) r.is (orderly (played_to r) r.time)
 
-  pub chain-listed : ChainListed σ.memory
-  chain-listed = orderly-listed reached-orderly
+  pub chain_listed : ChainListed σ.memory
+  chain_listed = orderly_listed reached_orderly
 
-  pub chain-ends-in-tail : OnChain σ.memory tail_node
-  chain-ends-in-tail = chain-listed.ends
+  pub chain_ends_in_tail : OnChain σ.memory tail_node
+  chain_ends_in_tail = chain_listed.ends
 
 -- ---- what is held, as a plain set
 
@@ -102,4 +102,4 @@ held_set_lem {σ} r a = (
 )
   where
     listed : ChainListed σ.memory
-    listed = chain-listed r
+    listed = chain_listed r
