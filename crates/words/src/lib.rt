@@ -42,6 +42,7 @@ pub struct Swapped {
 }
 
 // Whether the sizes are within the limits.
+#[tactic(auto, unfolding(table::specs::Events::sizes_fit))]
 pub fn sizes_fit(nodes: u32, processes: u32) -> bool
     ensures { result ≡ sizes_fit nodes processes }
 {
@@ -49,6 +50,7 @@ pub fn sizes_fit(nodes: u32, processes: u32) -> bool
 }
 
 // Whether they are, and the lent tables long enough for them, and the count within the nodes.
+#[tactic(auto, unfolding(table::specs::Events::tables_fit, table::specs::Words::lengths))]
 pub fn tables_fit(addresses: &[u32], links: &[u32], deleters: &[u32], sizes: Sizes) -> bool
     ensures { result ≡ tables_fit (lent_memory addresses.now links.now deleters.now sizes) }
 {
@@ -61,6 +63,7 @@ pub fn tables_fit(addresses: &[u32], links: &[u32], deleters: &[u32], sizes: Siz
 
 // The place of a process's record in a row of 64, by the stated number of processes. A process that is not there has the first: it is refused, and
 // the record stays.
+#[tactic(auto, unfolding(crate::specs::LentWords::slot_of))]
 pub fn slot(process: Process, processes: u32) -> usize
     ensures value { result ≡ slot_of processes process.0 }
     ensures upper_bound { result < 64 }
@@ -74,6 +77,7 @@ pub fn slot(process: Process, processes: u32) -> usize
 }
 
 // Whether a node is in use: in any memory that has these links and sizes.
+#[tactic(auto, unfolding(table::specs::Words::in_use))]
 pub fn in_use(links: &[u32], sizes: Sizes, n: Node) -> bool
     ensures { (m : Memory) → result ≡ in_use (sized sizes (links≔ links.now m)) n }
 {
@@ -127,6 +131,7 @@ fn address_rank(address: Address) -> u64
 }
 
 // Where a node sorts: head below and tail above every address.
+#[tactic(auto, unfolding(table::specs::Words::rank))]
 pub fn rank_of(addresses: &[u32], n: Node) -> u64
     ensures { result ≡ rank addresses.now n }
 {
@@ -140,6 +145,7 @@ pub fn rank_of(addresses: &[u32], n: Node) -> u64
 }
 
 // How a node stands to an address.
+#[tactic(auto, unfolding(crate::specs::LentWords::compared_of))]
 pub fn compare(addresses: &[u32], n: Node, address: Address) -> Compared
     ensures { result ≡ compared_of addresses.now n address }
 {
@@ -162,6 +168,7 @@ pub fn write(words: &mut [u32], n: Node, word: u32)
 }
 
 // Compares the whole word and writes only if equal; whether it wrote, and the word found.
+#[tactic(auto, unfolding(crate::specs::LentWords::swap_of))]
 pub fn swap(words: &mut [u32], n: Node, expected: u32, new: u32) -> Swapped
     ensures { swap_left words.new result ≡ swap_of words.old n expected new }
 {
@@ -177,6 +184,7 @@ pub fn swap(words: &mut [u32], n: Node, expected: u32, new: u32) -> Swapped
 }
 
 // The link word of a node, read: accepted if its target is in use.
+#[tactic(auto, unfolding(crate::specs::LentWords::link_met, table::specs::Words::link_at))]
 pub fn link_met(links: &[u32], sizes: Sizes, n: Node) -> LinkRead
     ensures { (m : Memory) → result ≡ link_met (sized sizes (links≔ links.now m)) n }
 {
@@ -197,6 +205,7 @@ pub fn link_met(links: &[u32], sizes: Sizes, n: Node) -> LinkRead
 }
 
 // Whether the fields of a record are in their ranges: those of any place, then the kind at the places of a search, the answer at the last two.
+#[tactic(auto, unfolding(table::specs::Steps::in_range))]
 pub fn in_range(old: Record) -> bool
     ensures { result ≡ in_range old }
 {
