@@ -7,7 +7,7 @@ use native.Mathlib.Omega.{arith}
 use lib.Dec.{ltb, eqb}
 use lib.ListN.{length, take, drop, length-append, take-append-drop}
 use lib.Seq.{drop_at}
-use Rattle.basics.proofs.Tests.{if, if-lt}
+use Rattle.basics.proofs.Tests.{if, if_lt}
 use Rattle.numbers.specs.Numbers.{Read, got, stops, ◌then◌, lowest, more_groups, read_number}
 use Rattle.numbers.specs.ReadAt.{place_in}
 
@@ -78,7 +78,7 @@ more_takes zero [] = omega arith
 more_takes (suc before) [] = omega arith
 more_takes zero (b ∷ s) = if (Takes (b ∷ s)) (ltb 15 b || eqb b 0) (λ t. omega arith) (λ t. follows_one b s)
 more_takes (suc before) (b ∷ s) =
-    if-lt (Takes (b ∷ s)) b 128
+    if_lt (Takes (b ∷ s)) b 128
     (λ l. if (Takes (b ∷ s)) (eqb b 0) (λ t. omega arith) (λ t. follows_one b s))
     (λ l. after (Takes (b ∷ s)) (more_groups before s) (lowest (b - 128)) (more_takes before s)
     (λ n left f. follows_follows f (follows_one b s))
@@ -88,7 +88,7 @@ pub number_takes : (s : List ℕ) → Takes s (read_number s)
 unfolding read_number
 number_takes [] = omega arith
 number_takes (b ∷ s) =
-    if-lt (Takes (b ∷ s)) b 128
+    if_lt (Takes (b ∷ s)) b 128
     (λ l. follows_one b s)
     (λ l. after (Takes (b ∷ s)) (more_groups 3 s) (lowest (b - 128)) (more_takes 3 s)
     (λ n left f. follows_follows f (follows_one b s))

@@ -132,24 +132,24 @@ abbrev pub NoZeroLast : List ℕ → (last : ℕ) → Type 0
 NoZeroLast groups last = (ltb 0 last && eqb (get_or groups last 0) 0) ≡ false
 
 module _ (groups : List ℕ) (last : ℕ) where
-  pub only-group : last ≤ 0 → NoZeroLast groups last
-  only-group h = rw (le-ltb 0 last h)
+  pub only_group : last ≤ 0 → NoZeroLast groups last
+  only_group h = rw (le-ltb 0 last h)
 
-  pub last-not-zero : eqb (get_or groups last 0) 0 ≡ false → NoZeroLast groups last
-  last-not-zero e = rw e (and-false (ltb 0 last))
+  pub last_not_zero : eqb (get_or groups last 0) 0 ≡ false → NoZeroLast groups last
+  last_not_zero e = rw e (and-false (ltb 0 last))
 
 module _ (groups : List ℕ) (last next : ℕ) where
-  pub zero-last : 0 < last → eqb (get_or groups last 0) 0 ≡ true → Refused 6 ≡ judged groups last next
+  pub zero_last : 0 < last → eqb (get_or groups last 0) 0 ≡ true → Refused 6 ≡ judged groups last next
   unfolding judged
-  zero-last h e = rw (lt-ltb 0 last h, e)
+  zero_last h e = rw (lt-ltb 0 last h, e)
 
-  pub fifth-above : NoZeroLast groups last → 15 < get_or groups 4 0 → Refused 6 ≡ judged groups last next
+  pub fifth_above : NoZeroLast groups last → 15 < get_or groups 4 0 → Refused 6 ≡ judged groups last next
   unfolding judged
-  fifth-above e h = rw (e, lt-ltb 15 (get_or groups 4 0) h)
+  fifth_above e h = rw (e, lt-ltb 15 (get_or groups 4 0) h)
 
-  pub number-made : (n : ℕ) → NoZeroLast groups last → get_or groups 4 0 ≤ 15 → n ≡ summed groups → Got n next ≡ judged groups last next
+  pub number_made : (n : ℕ) → NoZeroLast groups last → get_or groups 4 0 ≤ 15 → n ≡ summed groups → Got n next ≡ judged groups last next
   unfolding judged
-  number-made n e h made = rw (e, le-ltb 15 (get_or groups 4 0) h, made)
+  number_made n e h made = rw (e, le-ltb 15 (get_or groups 4 0) h, made)
 
 -- ---- the turns of the loop
 
@@ -167,21 +167,21 @@ module _ (bytes groups : List ℕ) (count next : ℕ) where
   missing : count < 5 → length bytes ≤ next → left ≡ stops 4
   missing few short = rw (drop_of_length-le bytes short, none_left_lem count few) (behind_stops (take count groups) 4)
 
-  five-and-no-last : 5 ≤ count → left ≡ stops 6
-  five-and-no-last many = rw (too_many count (drop next bytes) many) (behind_stops (take count groups) 6)
+  five_and_no_last : 5 ≤ count → left ≡ stops 6
+  five_and_no_last many = rw (too_many count (drop next bytes) many) (behind_stops (take count groups) 6)
 
   module _ (few : count < 5) (five : length groups ≡ 5) (there : next < length bytes) where
     abbrev byte : ℕ
     byte = get_or bytes next 0
 
-    next-byte : after_groups count (drop next bytes) ≡ after_groups count (byte ∷ drop (next + 1) bytes)
-    next-byte = rw (drop-cons bytes next 0 there, add-one next)
+    next_byte : after_groups count (drop next bytes) ≡ after_groups count (byte ∷ drop (next + 1) bytes)
+    next_byte = rw (drop-cons bytes next 0 there, add-one next)
 
     -- a group that is not the last
     gathered : 128 ≤ byte
         → left ≡ behind (take (count + 1) (set groups count (byte - 128))) (after_groups (count + 1) (drop (next + 1) bytes))
     gathered more =
-        ap (behind (take count groups)) (next-byte ∙ (one_more_lem count byte (drop (next + 1) bytes) few ∙ rw (le-ltb byte 128 more)))
+        ap (behind (take count groups)) (next_byte ∙ (one_more_lem count byte (drop (next + 1) bytes) few ∙ rw (le-ltb byte 128 more)))
         ∙ (sym (behind_more (take count groups) (byte - 128) (after_groups (suc count) (drop (next + 1) bytes)))
         ∙ rw (add-one count, take-suc-set groups count (byte - 128) (omega arith)))
 
@@ -196,7 +196,7 @@ module _ (bytes groups : List ℕ) (count next : ℕ) where
         (λ i. number_read (λ left. place i) (cond (ltb 0 count && eqb (same i) 0) (stops 6) (cond (large i) (stops 6) (got (sum i) []))))
         ∙ (sym (read_last bytes (take count groups) (drop (next + 1) bytes) byte (ltb 0 count && eqb byte 0) (ltb 3 count && ltb 15 byte))
         ∙ ap (λ (r : Read ℕ). number_read (place_in bytes) (behind (take count groups) r))
-        (sym (next-byte ∙ (one_more_lem count byte (drop (next + 1) bytes) few ∙ rw (lt-ltb byte 128 last)))))
+        (sym (next_byte ∙ (one_more_lem count byte (drop (next + 1) bytes) few ∙ rw (lt-ltb byte 128 last)))))
 
   -- so, where what is left is what was to be read, each way out answers with the number
   module _ (at : ℕ) (whole : left ≡ read_number (drop at bytes)) where
@@ -204,15 +204,15 @@ module _ (bytes groups : List ℕ) (count next : ℕ) where
     unfolding number_at
     left_is = ap (number_read (place_in bytes)) whole
 
-    pub byte-missing : count < 5 → length bytes ≤ next → Refused 4 ≡ number_at bytes at
-    byte-missing few short = ap (number_read (place_in bytes)) (sym (missing few short)) ∙ left_is
+    pub byte_missing : count < 5 → length bytes ≤ next → Refused 4 ≡ number_at bytes at
+    byte_missing few short = ap (number_read (place_in bytes)) (sym (missing few short)) ∙ left_is
 
-    pub no-last-group : 5 ≤ count → Refused 6 ≡ number_at bytes at
-    no-last-group many = ap (number_read (place_in bytes)) (sym (five-and-no-last many)) ∙ left_is
+    pub no_last_group : 5 ≤ count → Refused 6 ≡ number_at bytes at
+    no_last_group many = ap (number_read (place_in bytes)) (sym (five_and_no_last many)) ∙ left_is
 
-    pub last-judged : count < 5 → length groups ≡ 5 → next < length bytes → get_or bytes next 0 < 128 → ZerosFrom count groups
+    pub last_judged : count < 5 → length groups ≡ 5 → next < length bytes → get_or bytes next 0 < 128 → ZerosFrom count groups
         → (r : NumberRead) → r ≡ judged (set groups count (get_or bytes next 0)) count (next + 1) → r ≡ number_at bytes at
-    last-judged few five there last zeros r e = e ∙ (ended few five there last zeros ∙ left_is)
+    last_judged few five there last zeros r e = e ∙ (ended few five there last zeros ∙ left_is)
 
 -- ---- what the loop keeps
 

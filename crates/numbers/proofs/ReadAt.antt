@@ -40,9 +40,9 @@ module _ (file : List ℕ) (at n : ℕ) where
   got_number next read is e =
       by_read file at n next (read_number (drop at file)) (number_takes (drop at file)) refl (sym is ∙ e)
 
-  pub refused-number : (read : NumberRead) → read ≡ number_at file at → read ≡ Refused n → read_number (drop at file) ≡ stops n
+  pub refused_number : (read : NumberRead) → read ≡ number_at file at → read ≡ Refused n → read_number (drop at file) ≡ stops n
   unfolding number_at
-  refused-number read is e = by_stop file at n (read_number (drop at file)) refl (sym is ∙ e)
+  refused_number read is e = by_stop file at n (read_number (drop at file)) refl (sym is ∙ e)
 
-  pub number-inside : (next : ℕ) (read : NumberRead) → read ≡ number_at file at → read ≡ Got n next → next ≤ length file
-  number-inside next read is e = (got_number next read is e).inside
+  pub number_inside : (next : ℕ) (read : NumberRead) → read ≡ number_at file at → read ≡ Got n next → next ≤ length file
+  number_inside next read is e = (got_number next read is e).inside
