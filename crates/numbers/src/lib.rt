@@ -34,6 +34,7 @@ fn sum(groups: [u8; 5], fifth: u8) -> u32
 }
 
 // The groups gathered: a last group of zero after another, or a fifth above 15, is refused.
+#[tactic(auto, using(crate::proofs::Gathers::summed_five), unfolding(crate::specs::Gathering::judged))]
 fn judge(groups: [u8; 5], last: usize, next: usize) -> NumberRead
     requires groups { Groups groups }
     requires last_bound { last < 5 }
