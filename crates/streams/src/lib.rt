@@ -1,8 +1,12 @@
-// What the programs do with their streams: standard input read so that a failed read is told from the end of the input, and words to standard
-// error. Rests on the kit's libc and io.
+// What the programs do with their streams: input read so that a failed read is told from the end of the input, bytes written whole, and words
+// to standard error. A stream is any reader or writer. Rests on std's io.
 #![tactic(auto)]
 
-ghost use Rattle.io.specs.Counts.{IsPrefixLen};
+ghost use Rattle.std.specs.Prelude.{◌≡◌, ◌<◌, length, take, false, IsTrue};
+ghost use Rattle.std.specs.Counts.{IsPrefixLen};
+ghost use Rattle.std.specs.Io.KnownBytes.{Appends, Consumes, IsAtEnd};
+
+use std::io::{Read, Write};
 
 // What reading came to: how many bytes stand at the start of the space, and whether a read failed.
 #[derive(Clone, Copy)]
@@ -11,20 +15,20 @@ pub struct Input {
     pub broken: bool,
 }
 
-// Reads standard input until the space is full, the input ends or a read fails.
-pub fn read_in(space: &mut [u8]) -> Input
-    ensures { IsPrefixLen result.count space.new }
+// Reads until the space is full, the input ends or a read fails. What stands at the start of the space is what the reader gave.
+pub fn read_in<R: Read>(from: &mut R, space: &mut [u8]) -> Input
+    ensures counted { IsPrefixLen result.count space.new }
+    ensures bytes { Consumes (R.remaining from.old) (R.remaining from.new) (take result.count space.new) }
+    ensures end { result.broken ≡ false → result.count < length space.new → IsAtEnd (R.remaining from.new) }
 {
     let mut done: usize = 0;
     while done < space.len() {
-        let got = libc::read(0, &mut space[done..]);
-        if got < 0 {
+        let Ok(more) = from.read(&mut space[done..]) else {
             return Input {
                 count: done,
                 broken: true,
             };
-        }
-        let more = io::count(got, &space[done..]);
+        };
         if more == 0 {
             return Input {
                 count: done,
@@ -39,7 +43,14 @@ pub fn read_in(space: &mut [u8]) -> Input
     }
 }
 
-// Words to standard error.
-pub fn complain(words: &[u8]) {
-    io::write_all(2, words);
+// Writes all of the bytes; whether they were taken.
+pub fn write_all<W: Write>(to: &mut W, bytes: &[u8]) -> bool
+    ensures { IsTrue result → Appends (W.contents to.old) (W.contents to.new) bytes.now }
+{
+    to.write_all(bytes).is_ok()
+}
+
+// Words to standard error, as far as it takes them.
+pub fn complain<W: Write>(to: &mut W, words: &[u8]) {
+    let _ = to.write_all(words);
 }
