@@ -76,15 +76,11 @@ def reference(program, option, stdin):
 
 
 def find(name, variable):
-    """The program that the variable names, or the newest executable of that name below target/."""
+    """The program that the variable names, or the one that `rt run` or `rt ci` built in its crate."""
     if os.environ.get(variable):
         return os.path.abspath(os.environ[variable])
-    found = []
-    for folder, _, files in os.walk(os.path.join(os.path.dirname(HERE), "target")):
-        path = os.path.join(folder, name)
-        if name in files and os.access(path, os.X_OK):
-            found.append((os.path.getmtime(path), path))
-    return max(found)[1] if found else None
+    path = os.path.join(os.path.dirname(HERE), "crates", name, "out", name)
+    return path if os.access(path, os.X_OK) else None
 
 
 # ---- The hand-worked cases ----
