@@ -116,6 +116,7 @@ fn put_eight(part: &mut [u8], n: u32) -> usize
 }
 
 // Times this, a number of so many digits has eight.
+#[tactic(auto, unfolding(crate::specs::Digits::tens))]
 fn lift(count: usize) -> u32
     requires { 4 ≤ count }
     ensures { result ≡ tens (8 - count) }
@@ -186,6 +187,7 @@ fn put_ended(part: &mut [u8], n: u32) -> usize
 }
 
 // ` refused N` and the end of the line.
+#[tactic(auto, using(crate::proofs::Puts::put_both), unfolding(crate::specs::Text::outcome_text))]
 fn put_refused(part: &mut [u8], number: u8) -> usize
     requires { 20 ≤ length part.old }
     ensures result_after { put part.new result ≡ puts (line_end (Refused number)) part.old }
@@ -197,6 +199,7 @@ fn put_refused(part: &mut [u8], number: u8) -> usize
 }
 
 // ` false`, ` true` or ` fail` and the end of the line.
+#[tactic(auto, using(crate::proofs::LineEnds::ended_false, crate::proofs::LineEnds::ended_true, crate::proofs::LineEnds::ended_fail))]
 fn put_answer(part: &mut [u8], answer: u8) -> usize
     requires { 20 ≤ length part.old }
     ensures result_after { put part.new result ≡ puts (line_end (Answered answer)) part.old }
@@ -212,6 +215,7 @@ fn put_answer(part: &mut [u8], answer: u8) -> usize
 }
 
 // What an event came to, after a space, and the end of the line.
+#[tactic(auto, using(crate::proofs::LineEnds::line_ended, crate::proofs::LineEnds::four_ended), unfolding(crate::specs::Text::outcome_text))]
 fn put_line_end(part: &mut [u8], outcome: Outcome) -> usize
     requires { 20 ≤ length part.old }
     ensures result_after { put part.new result ≡ puts (line_end outcome) part.old }
@@ -266,6 +270,7 @@ pub fn put_outcome(part: &mut [u8], outcome: Outcome) -> usize
 }
 
 // The first word of the last line.
+#[tactic(auto, using(crate::proofs::Puts::too_short, crate::proofs::Puts::into_room))]
 pub fn put_keys(part: &mut [u8]) -> usize
     ensures result_after { put part.new result ≡ put_into keys_word part.old }
     ensures upper_bound { result ≤ 4 }
@@ -298,6 +303,7 @@ pub fn put_address(part: &mut [u8], address: Address) -> usize
 }
 
 // The end of the last line.
+#[tactic(auto, using(crate::proofs::Puts::too_short, crate::proofs::Puts::into_room))]
 pub fn put_newline(part: &mut [u8]) -> usize
     ensures result_after { put part.new result ≡ put_into (newline ∷ []) part.old }
     ensures upper_bound { result ≤ 1 }
