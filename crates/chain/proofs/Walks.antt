@@ -7,8 +7,6 @@ use native.Mathlib.Omega.{arith}
 use lib.Dec.{ltb, eqb}
 use lib.ListN.{get_or}
 use borrow.Author.Tests.{lt-ltb, le-ltb, eq-eqb, ne_eqb}
-use denote.Enum.Declared.{tag_of}
-use types.Run.{OneOf, miss}
 use Rattle.record.specs.Record.{head_node, tail_node, address}
 use Rattle.record.specs.declared.Node.{Node}
 use Rattle.record.specs.declared.Address.{Address}
@@ -20,7 +18,6 @@ use Rattle.words.specs.declared.Sizes.{Sizes}
 use Rattle.words.specs.LentMemory.{sized}
 use Rattle.chain.specs.declared.Ahead.{Ahead}
 use Rattle.chain.specs.declared.Ahead.TheVariants.{Next, Tail, NotInUse, NotAbove}
-use Rattle.chain.specs.contracts.Ahead.{the_type}
 use Rattle.chain.specs.Walking.{ahead_in, ahead_from}
 
 -- ---- what the code's tests tell
@@ -67,7 +64,7 @@ onward_told addresses links sizes from target asked word at to used x told is e 
 
 -- any answer but a next node
 abbrev pub Stops : Ahead → Type 0
-Stops x = OneOf (1 ∷ 2 ∷ 3 ∷ []) (tag_of the_type x)
+Stops x = (n : Node) (a : Address) → x ≡ Next n a → ⊥
 
 module _ (m : Memory) where
   -- a next node is told of a next node alone, with its address
@@ -78,7 +75,7 @@ module _ (m : Memory) where
   next_onto not_above n a e = absurd (let z : ◌≡◌ {A = ℕ} 0 1 = cc in omega arith)
 
   stops_meet : (P : table.Ahead → Type 0) (x : table.Ahead) → Stops (ahead_in m x) → P tail_ahead → P not_in_use → P not_above → P x
-  stops_meet P (onto n) stops t u a = absurd (miss (1 ∷ 2 ∷ 3 ∷ []) 0 tt stops)
+  stops_meet P (onto n) stops t u a = absurd (stops n (address (address_at m n)) refl)
   stops_meet P tail_ahead stops t u a = t
   stops_meet P not_in_use stops t u a = u
   stops_meet P not_above stops t u a = a

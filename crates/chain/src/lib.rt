@@ -31,6 +31,7 @@ pub enum Keys {
 
 // Whether the walk at rank `from` goes on to a target at rank `to`, in use or not, or why it stops. The target's address is looked at only where
 // the walk goes on to it.
+#[tactic(auto, unfolding(table::specs::Words::address_at))]
 fn judge(addresses: &[u32], target: Node, used: bool, from: u64, to: u64) -> Ahead
     ensures { (m : Memory) → result ≡
         ahead_in (addresses≔ addresses.now m) (ahead_of target (eqb target.0 tail_node.0) used (ltb from to)) }
@@ -85,6 +86,7 @@ fn read_chain(addresses: &[u32], links: &[u32], sizes: Sizes, buffer: &mut [u32]
 }
 
 // The addresses on the chain from head, written from the buffer's start; its rest stays.
+#[tactic(auto, using(crate::proofs::Reading::keys_refused))]
 pub fn chain_addresses(
     addresses: &[u32],
     links: &[u32],
