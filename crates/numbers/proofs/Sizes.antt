@@ -43,3 +43,5 @@ groups_size (suc more) n =
 pub number_size : (n : ℕ) → (1 ≤ length (number_bytes n)) × (length (number_bytes n) ≤ 5)
 unfolding number_bytes
 number_size n = groups_size 4 n
+
+pub ruleset sizes = (number_last, number_more, number_size)

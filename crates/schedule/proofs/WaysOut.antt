@@ -19,7 +19,7 @@ use Rattle.numbers.specs.declared.NumberRead.{NumberRead}
 use Rattle.numbers.specs.declared.NumberRead.TheVariants as number
 use Rattle.numbers.specs.Numbers.{got, stops, ◌then◌}
 use Rattle.numbers.specs.ReadAt.{place_in, number_at}
-use Rattle.numbers.proofs.ReadAt.{place_of_drop, got_number, refused_number}
+use Rattle.numbers.proofs.ReadAt.{place_of_drop, got_number, refused_number, number_inside}
 use Rattle.schedule.specs.declared.Header.{Header}
 use Rattle.schedule.specs.declared.Cursor.{Cursor}
 use Rattle.schedule.specs.declared.HeaderRead.{HeaderRead}
@@ -147,3 +147,13 @@ module _ (file : List ℕ) (c : Cursor) where
     pub item_stands : c.at < length file → (r : EventRead) → r ≡ item_at file c.at → r ≡ event_at file c
     unfolding event_at next_item item_at
     item_stands h r e = rw (le-ltb 0 c.left none, drop-cons file c.at 0 h) (rw (drop-cons file c.at 0 h) at e)
+
+-- ---- the laws of each of the longer functions together
+
+pub ruleset header_laws = (header_too_long, header_first_refused, header_second_refused, header_sized)
+
+pub ruleset rest_laws = (rest_request, rest_move, rest_burst)
+
+pub ruleset item_laws = (number_inside, kind_refused, kind_above, process_refused, process_read)
+
+pub ruleset event_laws = (burst_goes_on, file_ends, item_stands)

@@ -22,6 +22,7 @@ fn cursor_at(at: usize) -> Cursor
 }
 
 // A header's numbers, its sizes judged.
+#[tactic(auto, unfolding(crate::specs::Inside::Continuing::sized_at))]
 fn sized(nodes: u32, processes: u32, next: usize) -> HeaderRead
     ensures { result ≡ sized_at nodes processes next }
 {
@@ -35,6 +36,7 @@ fn sized(nodes: u32, processes: u32, next: usize) -> HeaderRead
 }
 
 // The header at the cursor.
+#[tactic(auto, using(crate::proofs::WaysOut::header_laws))]
 pub fn read_header(bytes: &[u8], cursor: Cursor) -> HeaderRead
     ensures { result ≡ header_at bytes.now cursor }
 {
@@ -91,6 +93,7 @@ fn step_by(process: Process) -> Event
 }
 
 // The first step of a burst, its count judged.
+#[tactic(auto, unfolding(crate::specs::Inside::Continuing::burst_of))]
 fn burst(process: Process, count: u32, next: usize) -> EventRead
     ensures { result ≡ burst_of process count next }
 {
@@ -110,6 +113,7 @@ fn burst(process: Process, count: u32, next: usize) -> EventRead
 }
 
 // A burst, its process read.
+#[tactic(auto, using(crate::proofs::WaysOut::burst_counted, crate::proofs::WaysOut::burst_refused))]
 fn read_burst(bytes: &[u8], process: Process, at: usize) -> EventRead
     ensures { result ≡ burst_at bytes.now process at }
 {
@@ -121,6 +125,7 @@ fn read_burst(bytes: &[u8], process: Process, at: usize) -> EventRead
 }
 
 // A request, its kind and process read.
+#[tactic(auto, using(crate::proofs::WaysOut::request_addressed, crate::proofs::WaysOut::request_refused))]
 fn read_request(bytes: &[u8], kind: u32, process: Process, at: usize) -> EventRead
     ensures { result ≡ request_at bytes.now kind process at }
 {
@@ -137,6 +142,7 @@ fn read_request(bytes: &[u8], kind: u32, process: Process, at: usize) -> EventRe
 }
 
 // An event, its kind and process read: the kind says what follows.
+#[tactic(auto, using(crate::proofs::WaysOut::rest_laws))]
 fn read_rest(bytes: &[u8], kind: u32, process: Process, at: usize) -> EventRead
     requires { at ≤ length bytes.now }
     ensures { result ≡ rest_at bytes.now kind process at }
@@ -154,6 +160,7 @@ fn read_rest(bytes: &[u8], kind: u32, process: Process, at: usize) -> EventRead
 }
 
 // An event that stands at a place: its kind is judged before its process is read.
+#[tactic(auto, using(crate::proofs::WaysOut::item_laws))]
 fn read_item(bytes: &[u8], at: usize) -> EventRead
     ensures { result ≡ item_at bytes.now at }
 {
@@ -175,6 +182,7 @@ fn read_item(bytes: &[u8], at: usize) -> EventRead
 }
 
 // The event at the cursor: a step left of a burst, or what stands in the file.
+#[tactic(auto, using(crate::proofs::WaysOut::event_laws))]
 pub fn read_event(bytes: &[u8], cursor: Cursor) -> EventRead
     ensures { result ≡ event_at bytes.now cursor }
 {

@@ -18,6 +18,7 @@ struct Numbers {
 }
 
 // How many bytes a number takes.
+#[tactic(auto, using(numbers::proofs::Sizes::sizes))]
 fn number_size(number: u32) -> usize
     ensures value { result ≡ length (number_bytes number) }
     ensures upper_bound { result ≤ 5 }
@@ -32,6 +33,7 @@ fn number_size(number: u32) -> usize
 }
 
 // How many bytes they all take.
+#[tactic(auto, using(crate::proofs::BytesNeeded::size_of_two, crate::proofs::BytesNeeded::size_of_three))]
 fn size(numbers: Numbers) -> usize
     ensures { result ≡ length (bytes_of numbers) }
 {
@@ -59,6 +61,7 @@ fn room(rest: usize, at: usize) -> usize
 }
 
 // How many bytes go out: all that are needed, or none.
+#[tactic(auto, unfolding(crate::specs::Inside::Laying::all_or_none))]
 fn all_or_none(needed: usize, left: usize) -> usize
     ensures value { result ≡ all_or_none needed left }
     ensures upper_bound { result ≤ left }
@@ -89,6 +92,7 @@ fn put_number(out: &mut [u8], number: u32) -> usize
 }
 
 // The second number, and the third where there is one.
+#[tactic(auto, using(crate::proofs::Lays::two_laid, crate::proofs::Lays::three_laid))]
 fn put_tail(out: &mut [u8], numbers: Numbers)
     ensures { out.new ≡ fitted (tail_bytes numbers) out.old }
 {
@@ -100,6 +104,7 @@ fn put_tail(out: &mut [u8], numbers: Numbers)
 }
 
 // The numbers at the start of what is lent, as far as that goes.
+#[tactic(auto, using(crate::proofs::Lays::fitted_then))]
 fn put_numbers(out: &mut [u8], numbers: Numbers)
     ensures { out.new ≡ fitted (bytes_of numbers) out.old }
 {
@@ -108,6 +113,7 @@ fn put_numbers(out: &mut [u8], numbers: Numbers)
 }
 
 // The event writer: puts the numbers at the start of the rest of the output, all or none of their bytes.
+#[tactic(auto, using(crate::proofs::Lays::none_put, crate::proofs::Lays::all_put, crate::proofs::BytesNeeded::all_some))]
 fn put_event(rest: &mut [u8], at: usize, numbers: Numbers) -> Written
     ensures { answered rest.new at result ≡ put_in_rest (bytes_of numbers) rest.old at }
 {
@@ -122,6 +128,7 @@ fn put_event(rest: &mut [u8], at: usize, numbers: Numbers) -> Written
 }
 
 // Writes the numbers into the rest of the output: a start past the output leaves none.
+#[tactic(auto, using(crate::proofs::Lays::put_past, crate::proofs::Lays::put_in_rest_lem, crate::proofs::BytesNeeded::all_some))]
 fn write_numbers(out: &mut [u8], at: usize, numbers: Numbers) -> Written
     ensures { answered out.new at result ≡ put_at (bytes_of numbers) out.old at }
 {
@@ -163,6 +170,7 @@ fn request_numbers(kind: u32, process: Process, claimed: Address) -> Numbers
 }
 
 // An event's kind, process and address.
+#[tactic(auto, unfolding(crate::specs::Encoding::event_bytes, crate::specs::Encoding::address_bytes))]
 fn numbers_of(event: Event) -> Numbers
     ensures { bytes_of result ≡ event_bytes event }
 {
@@ -179,6 +187,7 @@ fn numbers_of(event: Event) -> Numbers
 }
 
 // Writes a header at a place of the output.
+#[tactic(auto, using(crate::proofs::Lays::header_refused, crate::proofs::Lays::header_put))]
 pub fn write_header(out: &mut [u8], at: usize, header: Header) -> Written
     ensures { answered out.new at result ≡ written_header header out.old at }
 {
@@ -191,6 +200,7 @@ pub fn write_header(out: &mut [u8], at: usize, header: Header) -> Written
 }
 
 // Writes an event at a place of the output.
+#[tactic(auto, using(crate::proofs::Lays::event_put))]
 pub fn write_event(out: &mut [u8], at: usize, event: Event) -> Written
     ensures { answered out.new at result ≡ written_event event out.old at }
 {
