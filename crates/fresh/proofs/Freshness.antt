@@ -67,6 +67,9 @@ module _ (a l d : List ℕ) (nodes processes : ℕ) (fits : Bool) where
     unfolding fresh_memory fresh_tables
     tables_refused unfit = rw (sym told ∙ unfit)
 
+-- what the test of the tables tells of what is lent, and of what is refused
+pub ruleset tables_told = (two_nodes, addresses_long, links_long, deleters_long, tables_refused)
+
 -- ---- the row beside the tables
 
 -- which answer there is tells whether the tables fit

@@ -33,6 +33,7 @@ fn clear(words: &mut [u32], n: usize)
 }
 
 // Zeros, then head's link and tail's, both to tail.
+#[tactic(auto, using(crate::proofs::Freshness::links_laid))]
 fn fresh_links(links: &mut [u32], nodes: usize)
     requires { (2 ≤ nodes) × (nodes ≤ length links.old) }
     ensures { (processes : ℕ) → links.new ≡ over (fresh_memory nodes processes).links links.old }
@@ -44,6 +45,7 @@ fn fresh_links(links: &mut [u32], nodes: usize)
 }
 
 // The lent tables made fresh for these sizes, or refused and left as they are.
+#[tactic(auto, using(crate::proofs::Freshness::tables_told))]
 pub fn fresh_tables(
     addresses: &mut [u32],
     links: &mut [u32],
@@ -76,6 +78,7 @@ struct Beside {
 }
 
 // The lent tables made fresh beside a row of so many records: where all that is left to do is to make the first of them fresh, all is done.
+#[tactic(auto, using(crate::proofs::Freshness::row_refused))]
 fn fresh_beside(
     addresses: &mut [u32],
     links: &mut [u32],
@@ -106,6 +109,7 @@ fn fresh_beside(
 }
 
 // The first records of a row, so many, are made fresh.
+#[tactic(auto, using(crate::proofs::Over::one_more_laid))]
 fn fresh_records(row: &mut [Record], records: usize)
     requires { records ≤ length row.old }
     ensures { row.new ≡ over (replicate records fresh_record) row.old }
