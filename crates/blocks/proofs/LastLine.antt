@@ -1,4 +1,4 @@
--- The last line lists the addresses of exactly the nodes on the chain of the state in which the order of `demand-3-files` ends. Rests on the files'
+-- The last line lists the addresses of exactly the nodes on the chain of the state in which the order of `demand_3_files` ends. Rests on the files'
 -- Demand3 and the table's reached states.
 use mathlib.Core.Path.{◌≡◌, ◌∙◌}
 use mathlib.Core.List.{List, ◌++◌, append_assoc}

@@ -1,4 +1,4 @@
--- Longer tables and a longer row give the same lines and the same last line. Rests on the place table's `beyond-untouched` and on what lies ahead.
+-- Longer tables and a longer row give the same lines and the same last line. Rests on the place table's `beyond_untouched` and on what lies ahead.
 use Prim.Native.Nat.{ℕ, zero, suc, ◌+◌, ◌≤◌}
 use mathlib.Core.List.{List, [], ◌∷◌, ◌++◌, map}
 use mathlib.Core.Path.{◌≡◌, refl, ap, sym, ◌∙◌}

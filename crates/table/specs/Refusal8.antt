@@ -1,5 +1,5 @@
 -- 01's refusal 8 as a table of its own: what each row tests, and the causes in 01's order. It says nothing of accesses: that a step is refused with 8
--- exactly for these causes is the law `refused-8-exactly` of proofs/Laws/Refusal8. Rests on Words, Places and Chain.
+-- exactly for these causes is the law `refused_8_exactly` of proofs/Laws/Refusal8. Rests on Words, Places and Chain.
 use Rattle.std.specs.Prelude.{◌≡◌, Bool, true, false, ◌≤◌, ◌<◌}
 use Rattle.std.proofs.Math.Option.{Option, none, some}
 use mathlib.Core.List.{List, [], ◌∷◌, Memᴰ}

@@ -1,7 +1,7 @@
 -- The names of the logic that walks use, passed on, so that a walk's header is short. Says nothing of its own.
 -- A walk goes through a function's MIR statement by statement, with a list of what it has: `[..]` in a comment is that list. `move` brings entries to
 -- the front, `drop` and `keep` let entries go, `split` and `join` (`fsplit` and `fjoin` of formulas) take a pair apart and together, `use1` replaces
--- the first entry by what it entails; `assigns`, `branches`, `land`, `returns` are the statements, `calls-met` (`Calls`) is a call, and `by` hands
+-- the first entry by what it entails; `assigns`, `branches`, `land`, `returns` are the statements, `calls_met` (`Calls`) is a call, and `by` hands
 -- the goal to a lemma.
 pub use Prim.Native.Nat.{ℕ, ◌<◌, ◌^◌, ◌≤◌, ◌+◌, ◌-◌, zero-le, zero, suc, ◌*◌}
 pub use base.Fml.{Lft, Share, GName, ftrue, flft, fobs, fbor, fobor, fauth, fat, froom, fdies, Fml, fsep, fres, feq, flent}

@@ -1,5 +1,5 @@
 -- The promises of `swap`, of `in_use` and of `link_met` leave one outcome; each other is of the form `r ≡ x`, or, of `write`, says so of the table afterwards: the
--- basics' `answer-unique`. Rests on LentMemory and LentWords.
+-- basics' `answer_unique`. Rests on LentMemory and LentWords.
 use mathlib.Core.Path.{◌≡◌, sym, ap, ◌∙◌}
 use mathlib.Core.Bool.{Bool}
 use mathlib.Core.List.{List}

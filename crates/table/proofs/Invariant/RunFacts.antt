@@ -1,5 +1,5 @@
 -- What holds of every run from a quiet state, for others to cite: what never changes, hindsight, what a running process's place says of it, and
--- how the nodes of two open inserts differ. What changes the addresses held is HeldByPlace's `event-held`. Rests on OpenOperations.
+-- how the nodes of two open inserts differ. What changes the addresses held is HeldByPlace's `event_held`. Rests on OpenOperations.
 use Rattle.table.proofs.Common.{◌≡◌, ◌≢◌, ◌⊎◌, ℕ, ◌≤◌, ◌<◌, arith, idle_status, running_status, insert_kind, delete_kind, find_kind, place_of}
 use Rattle.table.proofs.Laws.Numbered.{link_in, deleter_in, address_in, rank_in, follows_in, Used, own_in, Marked, On, rank_inner}
 use Rattle.table.proofs.Invariant.Moments.{Later, OnSince, later, hindsight}
