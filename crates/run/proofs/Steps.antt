@@ -4,12 +4,10 @@ use Prim.Native.Nat.{ℕ, suc, ◌-◌, ◌<◌, ◌≤◌}
 use mathlib.Core.List.{List, [], ◌∷◌}
 use mathlib.Core.Bool.{Bool, true, false, false≢true}
 use mathlib.Core.Path.{◌≡◌, refl, ap, sym, ◌∙◌, subst}
-use mathlib.Core.Logic.{◌⊎◌, ⊎_elim}
 use native.Mathlib.Omega.{arith}
 use borrow.Author.Tests.{lt-ltb, ltb-true, ltb-false}
 use lib.ListN.{length, length-append, get_or, set}
 use lib.Seq.{set-get_or}
-use denote.Enum.Declared.{tag_of}
 use Rattle.record.specs.Record.{fresh_record, process}
 use Rattle.record.specs.Event.{is_accepted}
 use Rattle.record.specs.declared.Node.{Node}
@@ -39,7 +37,6 @@ use Rattle.schedule.specs.declared.HeaderRead.TheVariants as header
 use Rattle.schedule.specs.Cursors.{start, header_at, event_at}
 use Rattle.fresh.specs.Fresh.{tables_left, fresh_sizes, fresh_tables}
 use Rattle.fresh.specs.declared.Made.{Made}
-use Rattle.schedule.specs.contracts.EventRead as event_read_lem
 use Rattle.chain.specs.Walking.{ahead_from}
 use Rattle.chain.specs.declared.Ahead.{Ahead}
 use Rattle.chain.specs.declared.Ahead.TheVariants as ahead
@@ -128,12 +125,12 @@ module _ (m : Memory) (run : Run) (acting : run.phase ≡ Acting) (row : length 
 
 -- what follows the last event
 abbrev NotGot : EventRead → Type 0
-NotGot r = (tag_of event_read_lem.the_type r ≡ 1) ⊎ (tag_of event_read_lem.the_type r ≡ 2)
+NotGot r = (e : Event) (next : Cursor) → r ≡ read.Got e next → ⊥
 
 pub last_next : (file : List ℕ) (w : World) (r : EventRead) → event_at file w.run.cursor ≡ r → NotGot r
     → event_next file w ≡ piece (last_text w.run.number r) (to_walk w)
 unfolding event_next last_text stopped_text
-last_next file w (read.Got e next) is h = absurd (⊎_elim (λ (p : 0 ≡ 1). omega arith) (λ (p : 0 ≡ 2). omega arith) h)
+last_next file w (read.Got e next) is h = absurd (h e next refl)
 last_next file w read.End is h = rw (is, event_next)
 last_next file w (read.Refused n) is h = rw (is, event_next)
 
@@ -143,7 +140,7 @@ last_piece file w r acting is h = acting_piece file w acting ∙ last_next file 
 
 pub last_some : (number : ℕ) (r : EventRead) → NotGot r → 1 ≤ length (last_text number r)
 unfolding last_text stopped_text
-last_some number (read.Got e next) h = absurd (⊎_elim (λ (p : 0 ≡ 1). omega arith) (λ (p : 0 ≡ 2). omega arith) h)
+last_some number (read.Got e next) h = absurd (h e next refl)
 last_some number read.End h = omega arith
 last_some number (read.Refused n) h = simp length-append (omega arith)
 

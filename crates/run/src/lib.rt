@@ -83,6 +83,7 @@ fn refusing(number: u8) -> Run
 }
 
 // A run after its header, with fresh tables or without.
+#[tactic(auto, unfolding(crate::specs::Pieces::start_of))]
 fn start_of(next: Cursor, made: Made) -> Run
     ensures { result ≡ start_of next made }
 {

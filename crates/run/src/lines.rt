@@ -26,6 +26,7 @@ fn accepted(outcome: Outcome) -> bool
 }
 
 // The number of the next line.
+#[tactic(auto, unfolding(crate::specs::Pieces::next_number))]
 fn number_after(number: u32) -> u32
     ensures { result ≡ next_number number }
 {
@@ -47,6 +48,7 @@ fn put_stopped(part: &mut [u8], number: u32, refusal: u8) -> usize
 }
 
 // What follows the last event.
+#[tactic(auto, using(crate::proofs::LastTexts::last_got, crate::proofs::LastTexts::last_end, crate::proofs::LastTexts::last_refused))]
 fn put_last(part: &mut [u8], number: u32, read: EventRead) -> usize
     requires { 64 ≤ length part.old }
     ensures result_after { put part.new result ≡ puts (last_text number read) part.old }

@@ -37,6 +37,7 @@ fn put_ahead(addresses: &[u32], links: &[u32], sizes: Sizes, part: &mut [u8], no
 }
 
 // The next piece, by the phase.
+#[tactic(auto, using(crate::proofs::Steps::refusal_put))]
 fn put_next(addresses: &[u32], links: &[u32], sizes: Sizes, part: &mut [u8], phase: Phase) -> Added
     requires { HasPiece phase }
     ensures puts_next { PutsNext addresses.now links.now sizes phase part.old part.new result.count result.phase }
