@@ -73,6 +73,7 @@ pub(crate) fn usable(links: &[u32], sizes: Sizes, old: Record, field: Field) -> 
 }
 
 // Reads the link of a field's node.
+#[tactic(auto, unfolding(crate::specs::Accesses::link_read))]
 pub(crate) fn read_link(links: &[u32], sizes: Sizes, old: Record, field: Field) -> LinkRead
     ensures { (m : Memory) → result ≡ link_read (sized sizes (links≔ links.now m)) old (field_named field) }
 {

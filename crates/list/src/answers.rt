@@ -51,6 +51,7 @@ pub(crate) fn accepted(sizes: Sizes, after: Record) -> Acted
 }
 
 // The record after an accepted step, or the old one with refusal 8.
+#[tactic(auto, unfolding(crate::specs::Rows::turn_of))]
 pub(crate) fn turn(fits: bool, sizes: Sizes, old: Record, after: Record) -> Acted
     ensures { result ≡ turn_of fits sizes old after }
 {

@@ -13,6 +13,7 @@ use record::{Process, Record};
 use words::Sizes;
 
 // Place 5: write curr as the record's node.
+#[tactic(auto, using(crate::proofs::ByPlace::row_5_lem))]
 pub(crate) fn row_5(links: &[u32], sizes: Sizes, old: Record) -> Acted
     requires { StandsAt 5 old }
     ensures { (m : Memory) → (p : spec.Process) → left (links≔ links.now m) result ≡ step (sized sizes (links≔ links.now m)) p old }
@@ -22,6 +23,7 @@ pub(crate) fn row_5(links: &[u32], sizes: Sizes, old: Record) -> Acted
 }
 
 // Place 6: read curr's link.
+#[tactic(auto, using(crate::proofs::ByPlace::row_6_lem))]
 pub(crate) fn row_6(links: &[u32], sizes: Sizes, old: Record) -> Acted
     requires { StandsAt 6 old }
     ensures { (m : Memory) → (p : spec.Process) → left (links≔ links.now m) result ≡ step (sized sizes (links≔ links.now m)) p old }
@@ -84,6 +86,7 @@ pub(crate) fn row_9(
 }
 
 // Place 10: read curr's deleter.
+#[tactic(auto, using(crate::proofs::ByPlace::row_10_lem))]
 pub(crate) fn row_10(
     links: &[u32],
     deleters: &[u32],

@@ -30,6 +30,7 @@ pub(crate) fn status_needed(action: Action) -> u8
 }
 
 // The words of the next node: its address, its link unmarked to tail, deleter none.
+#[tactic(auto, using(crate::proofs::Judged::given))]
 fn give_out(
     addresses: &mut [u32],
     links: &mut [u32],
@@ -81,6 +82,7 @@ fn insert(
 }
 
 // The action of a process that is there and has the status it needs.
+#[tactic(auto, unfolding(table::specs::Events::does))]
 pub(crate) fn does(
     addresses: &mut [u32],
     links: &mut [u32],

@@ -16,6 +16,7 @@ use record::{FALSE, Record, TRUE, either};
 use words::{Compared, LinkRead, Sizes};
 
 // What place 11 makes of the link that it read, and of how its target stands to the address.
+#[tactic(auto, using(crate::proofs::Ends::walked))]
 fn walk(sizes: Sizes, old: Record, read: LinkRead, order: Compared) -> Acted
     requires { StandsAt 11 old }
     ensures { (m : Memory) → (p : spec.Process) →
@@ -46,6 +47,7 @@ pub(crate) fn row_11(addresses: &[u32], links: &[u32], sizes: Sizes, old: Record
 }
 
 // Place 12: read curr's link.
+#[tactic(auto, using(crate::proofs::ByPlace::row_12_lem))]
 pub(crate) fn row_12(links: &[u32], sizes: Sizes, old: Record) -> Acted
     requires { StandsAt 12 old }
     ensures { (m : Memory) → (p : spec.Process) → left (links≔ links.now m) result ≡ step (sized sizes (links≔ links.now m)) p old }

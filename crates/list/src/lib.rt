@@ -28,6 +28,7 @@ pub struct Acted {
 }
 
 // One event on the lent tables and one record, that of its process: refusals 7, 1, 2, 3, 8 in this order.
+#[tactic(auto, unfolding(table::specs::Events::act, table::specs::Events::refusal_in))]
 pub fn act(
     addresses: &mut [u32],
     links: &mut [u32],

@@ -13,6 +13,7 @@ use record::{DELETES, FAIL, INSERTS, NO_ANSWER, NO_NODE, Outcome, Process, Recor
 use words::Sizes;
 
 // Place 13: read own record: it has its answer, it searches, it looks at its node, or it fails.
+#[tactic(auto, using(crate::proofs::ByPlace::row_13_lem))]
 pub(crate) fn row_13(sizes: Sizes, old: Record) -> Acted
     requires { StandsAt 13 old }
     ensures { (m : Memory) → (p : spec.Process) → left m result ≡ step (sized sizes m) p old }
@@ -37,6 +38,7 @@ pub(crate) fn row_13(sizes: Sizes, old: Record) -> Acted
 }
 
 // Place 14: read own link.
+#[tactic(auto, using(crate::proofs::ByPlace::row_14_lem))]
 pub(crate) fn row_14(links: &[u32], sizes: Sizes, old: Record) -> Acted
     requires { StandsAt 14 old }
     ensures { (m : Memory) → (p : spec.Process) → left (links≔ links.now m) result ≡ step (sized sizes (links≔ links.now m)) p old }
@@ -46,6 +48,7 @@ pub(crate) fn row_14(links: &[u32], sizes: Sizes, old: Record) -> Acted
 }
 
 // Place 15: read own link.
+#[tactic(auto, using(crate::proofs::ByPlace::row_15_lem))]
 pub(crate) fn row_15(links: &[u32], sizes: Sizes, old: Record) -> Acted
     requires { StandsAt 15 old }
     ensures { (m : Memory) → (p : spec.Process) → left (links≔ links.now m) result ≡ step (sized sizes (links≔ links.now m)) p old }
@@ -73,6 +76,7 @@ pub(crate) fn row_16(
 }
 
 // Place 17: read own deleter.
+#[tactic(auto, using(crate::proofs::ByPlace::row_17_lem))]
 pub(crate) fn row_17(
     links: &[u32],
     deleters: &[u32],
@@ -89,6 +93,7 @@ pub(crate) fn row_17(
 }
 
 // Place 18: the pending answer is written as the kept result.
+#[tactic(auto, using(crate::proofs::ByPlace::row_18_lem))]
 pub(crate) fn row_18(sizes: Sizes, old: Record) -> Acted
     requires { StandsAt 18 old }
     ensures { (m : Memory) → (p : spec.Process) → left m result ≡ step (sized sizes m) p old }
@@ -97,6 +102,7 @@ pub(crate) fn row_18(sizes: Sizes, old: Record) -> Acted
 }
 
 // Place 19: the pending answer is handed out.
+#[tactic(auto, using(crate::proofs::ByPlace::row_19_lem))]
 pub(crate) fn row_19(sizes: Sizes, old: Record) -> Acted
     requires { StandsAt 19 old }
     ensures { (m : Memory) → (p : spec.Process) → left m result ≡ step (sized sizes m) p old }

@@ -25,6 +25,7 @@ pub(crate) struct Goal {
 }
 
 // The end of a search: recovering or not, at own or not, for an insert or not, at the address or not.
+#[tactic(auto, unfolding(crate::specs::Rows::EndsAt, table::specs::Places::search_ends))]
 fn search_ends(recovering: bool, at_own: bool, inserts: bool, same: bool, pending: u8) -> Goal
     ensures { EndsAt recovering at_own inserts same pending result }
 {
@@ -64,6 +65,7 @@ fn search_ends(recovering: bool, at_own: bool, inserts: bool, same: bool, pendin
 }
 
 // Place 0: read head's link.
+#[tactic(auto, using(crate::proofs::ByPlace::row_0_lem))]
 pub(crate) fn row_0(links: &[u32], sizes: Sizes, old: Record) -> Acted
     requires { StandsAt 0 old }
     ensures { (m : Memory) → (p : spec.Process) → left (links≔ links.now m) result ≡ step (sized sizes (links≔ links.now m)) p old }
