@@ -3,7 +3,6 @@
 use Prim.Native.Nat.{ℕ, suc, ◌+◌, ◌<◌, ◌≤◌}
 use mathlib.Core.List.{List, [], ◌∷◌, ◌++◌, map, append_assoc, append-nil}
 use mathlib.Core.Path.{◌≡◌, refl, ap, sym, ◌∙◌, subst}
-use mathlib.Core.Logic.{inl, inr}
 use native.Mathlib.Omega.{arith}
 use borrow.Author.Tests.{lt-ltb, ne_eqb}
 use lib.ListN.{length, length-append}
@@ -111,14 +110,14 @@ module _ (file : List ℕ) (w : World) (acting : w.run.phase ≡ Acting) (number
       )
   by_read read.End h =
       let t = end_tells file w.run.cursor h in
-      subst (Told file _) (sym (last_next file w read.End h (inl refl))) (
+      subst (Told file _) (sym (last_next file w read.End h (λ e next q. cc))) (
         (λ z. omega (arith, acts _ z)),
         rw (come_acting file w acting, t.0, t.1) (played_end w.run.number (table_of w) ∙ keys_walk file w),
         omega arith,
       )
   by_read (read.Refused n) h =
       let t = refused_tells file w.run.cursor n h in
-      subst (Told file _) (sym (last_next file w (read.Refused n) h (inr refl))) (
+      subst (Told file _) (sym (last_next file w (read.Refused n) h (λ e next q. cc))) (
         (λ z. omega (arith, acts _ z)),
         rw (come_acting file w acting, t.0, t.1, append_assoc, ← keys_walk file w) (played_stop w.run.number (table_of w) n t.2.0),
         simp length-append (omega (arith, line_some w.run.number (outcome.Refused n))),

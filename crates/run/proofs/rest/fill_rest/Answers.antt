@@ -1,5 +1,5 @@
 -- Filling stops as filling from the start does, and goes on by the piece put. Rests on Fills and Steps.
-use Rattle.std.proofs.Common.{◌∙◌, ◌-◌, [], length, refl, sym, arith}
+use Rattle.std.proofs.Common.{◌∙◌, ◌-◌, [], length, sym}
 use Rattle.table.specs.Words.{fresh_memory}
 use Rattle.run.specs.Pieces.{next_piece}
 use Rattle.run.proofs.Fills.{grows_into, onward}
