@@ -1,5 +1,5 @@
 -- What is still to come of a run's output, wherever the run stands, and what its blocks give one after the other. Rests on the run.
-use Rattle.std.specs.Prelude.{List, [], ◌∷◌, ◌++◌, map, ℕ, zero, suc, ◌+◌, take}
+use Rattle.std.specs.Prelude.{List, [], ◌∷◌, ◌++◌, map, ℕ, zero, suc, take}
 use Rattle.record.specs.Record.{address}
 use Rattle.record.specs.declared.Outcome.TheVariants.{Refused}
 use Rattle.table.specs.Words.{address_at}
