@@ -1,4 +1,4 @@
-// Prints a run: the blocks of its output, one after the other, to standard output. Rests on the run.
+// Prints a run: the blocks of its output, one after the other, to a writer. Rests on the run.
 #![tactic(auto)]
 
 ghost use Rattle.std.specs.Prelude.{length};
@@ -7,8 +7,9 @@ ghost use Rattle.run.specs.Pieces.{unstated, begins};
 ghost use Rattle.printer.specs.Printing.{Printed, PrintedAs};
 
 use run::{begin, fill};
+use std::io::Write;
 
-// What printing comes to: all was written; standard output took no more; or the block is too short for any piece of it, and nothing was touched.
+// What printing comes to: all was written; the writer took no more; or the block is too short for any piece of it, and nothing was touched.
 #[derive(Clone, Copy)]
 pub enum Printout {
     Whole,
@@ -16,8 +17,9 @@ pub enum Printout {
     TooShort,
 }
 
-// Block after block, until nothing is left to come or standard output takes no more. Answers whether all was written.
-fn print_blocks(
+// Block after block, until nothing is left to come or the writer takes no more. Answers whether all was written.
+fn print_blocks<W: Write>(
+    to: &mut W,
     file: &[u8],
     addresses: &mut [u32],
     links: &mut [u32],
@@ -38,14 +40,15 @@ fn print_blocks(
         }
         let on = filled.run;
         run = on;
-        if !io::write_all(1, &block[..count]) {
+        if !streams::write_all(to, &block[..count]) {
             return false;
         }
     }
 }
 
 // Runs a schedule file and writes its output. It stops at the first block that can't be written.
-pub fn print_output(
+pub fn print_output<W: Write>(
+    to: &mut W,
     file: &[u8],
     addresses: &mut [u32],
     links: &mut [u32],
@@ -59,7 +62,7 @@ pub fn print_output(
     if block.len() < 64 {
         return Printout::TooShort;
     }
-    if print_blocks(file, addresses, links, deleters, block) {
+    if print_blocks(to, file, addresses, links, deleters, block) {
         return Printout::Whole;
     }
     Printout::Cut
