@@ -1,10 +1,12 @@
 // Prints a run: the blocks of its output, one after the other, to a writer. Rests on the run.
 #![tactic(auto)]
 
-ghost use Rattle.std.specs.Prelude.{length};
+ghost use Rattle.std.specs.Prelude.{◌≤◌, length};
 ghost use Rattle.words.specs.LentMemory.{lent_memory};
 ghost use Rattle.run.specs.Pieces.{unstated, begins};
-ghost use Rattle.printer.specs.Printing.{Printed, PrintedAs};
+ghost use Rattle.blocks.specs.ToCome.{to_come};
+ghost use Rattle.streams.specs.Written.{Written};
+ghost use Rattle.printer.specs.Printing.{Printed, PrintedAs, WrittenAs};
 
 use run::{begin, fill};
 use std::io::Write;
@@ -26,10 +28,13 @@ fn print_blocks<W: Write>(
     deleters: &mut [u32],
     block: &mut [u8],
 ) -> bool
-    ensures { Printed file.now
+    ensures printed { Printed file.now
         (begins file.now (lent_memory addresses.old links.old deleters.old unstated))
         (length block.old) (lent_memory addresses.new links.new deleters.new unstated)
         block.new result }
+    ensures written { 64 ≤ length block.old → Written (W.contents to.old) (W.contents to.new)
+        (to_come file.now (begins file.now (lent_memory addresses.old links.old deleters.old unstated)))
+        result }
 {
     let mut run = begin(file, addresses, links, deleters);
     loop {
@@ -55,9 +60,12 @@ pub fn print_output<W: Write>(
     deleters: &mut [u32],
     block: &mut [u8],
 ) -> Printout
-    ensures { PrintedAs file.now
+    ensures printed { PrintedAs file.now
         (lent_memory addresses.old links.old deleters.old unstated) block.old
         (lent_memory addresses.new links.new deleters.new unstated) block.new result }
+    ensures written { WrittenAs (W.contents to.old) (W.contents to.new)
+        (to_come file.now (begins file.now (lent_memory addresses.old links.old deleters.old unstated)))
+        result }
 {
     if block.len() < 64 {
         return Printout::TooShort;
