@@ -1,11 +1,13 @@
--- What printing a run leaves of the lent tables and of the lent block. What it writes is not for a contract to say; it writes each block as it was
--- filled. Rests on the run and on what is to come of its output.
-use Rattle.std.specs.Prelude.{◌≡◌, Bool, true, false, List, ℕ, ◌≤◌, ◌<◌, length}
+-- What printing a run leaves of the lent tables and of the lent block, and what the writer took of its output. Rests on the run and on what is to come
+-- of its output.
+use Rattle.std.specs.Prelude.{◌≡◌, Bool, true, false, List, Option, ℕ, ◌≤◌, ◌<◌, length}
+use Rattle.std.specs.Io.KnownBytes.{Keeps}
 use Rattle.table.specs.Words.{Memory}
 use Rattle.run.specs.declared.Run.{Run}
 use Rattle.run.specs.Filling.{stop}
 use Rattle.run.specs.Pieces.{World, world, fills, begins}
 use Rattle.blocks.specs.ToCome.{to_come}
+use Rattle.streams.specs.Written.{Written}
 use Rattle.printer.specs.declared.Printout.{Printout}
 use Rattle.printer.specs.declared.Printout.TheVariants.{Whole, Cut, TooShort}
 
@@ -30,3 +32,9 @@ abbrev pub PrintedAs : (file : List ℕ) (m : Memory) (block : List ℕ) (left :
 PrintedAs file m block left last Whole = (64 ≤ length block) × Printed file (begins file m) (length block) left last true
 PrintedAs file m block left last Cut = (64 ≤ length block) × Printed file (begins file m) (length block) left last false
 PrintedAs file m block left last TooShort = (length block < 64) × (left ≡ m) × (last ≡ block)
+
+-- what each answer says of what the writer took: all of the output, as much as it took from the front, nothing
+abbrev pub WrittenAs : (before after : Option (List ℕ)) (output : List ℕ) → Printout → Type 0
+WrittenAs before after output Whole = Written before after output true
+WrittenAs before after output Cut = Written before after output false
+WrittenAs before after output TooShort = Keeps before after

@@ -1,14 +1,17 @@
-// Prints a run: the blocks of its output, one after the other, to standard output. Rests on the run.
+// Prints a run: the blocks of its output, one after the other, to a writer. Rests on the run.
 #![tactic(auto)]
 
-ghost use Rattle.std.specs.Prelude.{length};
+ghost use Rattle.std.specs.Prelude.{◌≤◌, length};
 ghost use Rattle.words.specs.LentMemory.{lent_memory};
 ghost use Rattle.run.specs.Pieces.{unstated, begins};
-ghost use Rattle.printer.specs.Printing.{Printed, PrintedAs};
+ghost use Rattle.blocks.specs.ToCome.{to_come};
+ghost use Rattle.streams.specs.Written.{Written};
+ghost use Rattle.printer.specs.Printing.{Printed, PrintedAs, WrittenAs};
 
 use run::{begin, fill};
+use std::io::Write;
 
-// What printing comes to: all was written; standard output took no more; or the block is too short for any piece of it, and nothing was touched.
+// What printing comes to: all was written; the writer took no more; or the block is too short for any piece of it, and nothing was touched.
 #[derive(Clone, Copy)]
 pub enum Printout {
     Whole,
@@ -16,18 +19,22 @@ pub enum Printout {
     TooShort,
 }
 
-// Block after block, until nothing is left to come or standard output takes no more. Answers whether all was written.
-fn print_blocks(
+// Block after block, until nothing is left to come or the writer takes no more. Answers whether all was written.
+fn print_blocks<W: Write>(
+    to: &mut W,
     file: &[u8],
     addresses: &mut [u32],
     links: &mut [u32],
     deleters: &mut [u32],
     block: &mut [u8],
 ) -> bool
-    ensures { Printed file.now
+    ensures printed { Printed file.now
         (begins file.now (lent_memory addresses.old links.old deleters.old unstated))
         (length block.old) (lent_memory addresses.new links.new deleters.new unstated)
         block.new result }
+    ensures written { 64 ≤ length block.old → Written (W.contents to.old) (W.contents to.new)
+        (to_come file.now (begins file.now (lent_memory addresses.old links.old deleters.old unstated)))
+        result }
 {
     let mut run = begin(file, addresses, links, deleters);
     loop {
@@ -38,28 +45,32 @@ fn print_blocks(
         }
         let on = filled.run;
         run = on;
-        if !io::write_all(1, &block[..count]) {
+        if !streams::write_all(to, &block[..count]) {
             return false;
         }
     }
 }
 
 // Runs a schedule file and writes its output. It stops at the first block that can't be written.
-pub fn print_output(
+pub fn print_output<W: Write>(
+    to: &mut W,
     file: &[u8],
     addresses: &mut [u32],
     links: &mut [u32],
     deleters: &mut [u32],
     block: &mut [u8],
 ) -> Printout
-    ensures { PrintedAs file.now
+    ensures printed { PrintedAs file.now
         (lent_memory addresses.old links.old deleters.old unstated) block.old
         (lent_memory addresses.new links.new deleters.new unstated) block.new result }
+    ensures written { WrittenAs (W.contents to.old) (W.contents to.new)
+        (to_come file.now (begins file.now (lent_memory addresses.old links.old deleters.old unstated)))
+        result }
 {
     if block.len() < 64 {
         return Printout::TooShort;
     }
-    if print_blocks(file, addresses, links, deleters, block) {
+    if print_blocks(to, file, addresses, links, deleters, block) {
         return Printout::Whole;
     }
     Printout::Cut

@@ -2,9 +2,10 @@
 // to standard error. A stream is any reader or writer. Rests on std's io.
 #![tactic(auto)]
 
-ghost use Rattle.std.specs.Prelude.{◌≡◌, ◌<◌, length, take, false, IsTrue};
+ghost use Rattle.std.specs.Prelude.{◌≡◌, ◌<◌, length, take, false};
 ghost use Rattle.std.specs.Counts.{IsPrefixLen};
-ghost use Rattle.std.specs.Io.KnownBytes.{Appends, Consumes, IsAtEnd};
+ghost use Rattle.std.specs.Io.KnownBytes.{Consumes, IsAtEnd};
+ghost use Rattle.streams.specs.Written.{Written};
 
 use std::io::{Read, Write};
 
@@ -43,14 +44,24 @@ pub fn read_in<R: Read>(from: &mut R, space: &mut [u8]) -> Input
     }
 }
 
-// Writes all of the bytes; whether they were taken.
+// Writes all of the bytes, until a write takes none or fails; whether all were taken.
 pub fn write_all<W: Write>(to: &mut W, bytes: &[u8]) -> bool
-    ensures { IsTrue result → Appends (W.contents to.old) (W.contents to.new) bytes.now }
+    ensures { Written (W.contents to.old) (W.contents to.new) bytes.now result }
 {
-    to.write_all(bytes).is_ok()
+    let mut taken: usize = 0;
+    while taken < bytes.len() {
+        let Ok(next) = to.write(&bytes[taken..]) else {
+            return false;
+        };
+        if next == 0 {
+            return false;
+        }
+        taken += next;
+    }
+    true
 }
 
 // Words to standard error, as far as it takes them.
 pub fn complain<W: Write>(to: &mut W, words: &[u8]) {
-    let _ = to.write_all(words);
+    write_all(to, words);
 }

@@ -1,0 +1,45 @@
+-- Where writing stands: so many bytes were taken from the front. It goes on by what the next write takes, and ends where a write takes none or fails.
+-- Rests on std's words for what a writer holds.
+use Rattle.std.proofs.Common.{◌≡◌, ℕ, ◌+◌, ◌-◌, false, List, ◌++◌, length, take, drop, None, Some, Option, sym, ap, ◌∙◌, subst, arith, length-drop, take-append-drop}
+use Rattle.std.proofs.Math.Seq.{take-add, take_all}
+use Rattle.std.proofs.KnownBytes.{Appends-trans}
+use Rattle.std.proofs.lemmas.Bool.{false≢true}
+use Rattle.std.specs.Io.KnownBytes.{Appends, Keeps}
+use Rattle.streams.specs.Written.{Written}
+
+appends_kept : (a b c : Option (List ℕ)) (bytes : List ℕ) → Appends a b bytes → Keeps b c → Appends a c bytes
+appends_kept None b c bytes p q = tt
+appends_kept (Some x) None c bytes p q = absurd p
+appends_kept (Some x) (Some y) None bytes p q = absurd q
+appends_kept (Some x) (Some y) (Some z) bytes p q = q ∙ p
+
+module _ (a b c : Option (List ℕ)) (bytes : List ℕ) (taken : ℕ) (before : Appends a b (take taken bytes)) where
+  -- the bytes that a write is given
+  abbrev rest : List ℕ
+  rest = take (length bytes - taken) (drop taken bytes)
+
+  pub taken_on : (next : ℕ) → Appends b c (take next rest) → Appends a c (take (taken + next) bytes)
+  taken_on next more =
+      let whole : rest ≡ drop taken bytes = take_all (length bytes - taken) (drop taken bytes) (omega (arith, length-drop taken bytes)) in
+      let joined : take taken bytes ++ take next rest ≡ take (taken + next) bytes = ap (λ l. take taken bytes ++ take next l) whole ∙ sym (take-add taken next bytes) in
+      subst (Appends a c) joined (Appends-trans a b c (take taken bytes) (take next rest) before more)
+
+  -- the next write took none
+  pub stopped : (next : ℕ) → next ≡ 0 → Appends b c (take next rest) → Written a c bytes false
+  stopped next none more = record {
+    taken = take (taken + next) bytes;
+    left = drop (taken + next) bytes;
+    parts = take-append-drop (taken + next) bytes;
+    grows = taken_on next more;
+    whole = λ e. absurd (false≢true e);
+  }
+
+  -- it failed
+  pub failed : Keeps b c → Written a c bytes false
+  failed kept = record {
+    taken = take taken bytes;
+    left = drop taken bytes;
+    parts = take-append-drop taken bytes;
+    grows = appends_kept a b c (take taken bytes) before kept;
+    whole = λ e. absurd (false≢true e);
+  }
