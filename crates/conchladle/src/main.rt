@@ -3,11 +3,14 @@
 
 use printer::{Printout, print_output};
 
-fn main() {
+fn main(rt: HostRuntime) {
     let mut file = [0u8; 65537];
-    let input = streams::read_in(&mut file);
+    let input = streams::read_in(&mut rt.stdin(), &mut file);
     if input.broken {
-        streams::complain(b"conchladle: standard input can't be read\n");
+        streams::complain(
+            &mut rt.stderr(),
+            b"conchladle: standard input can't be read\n",
+        );
         return;
     }
     let length = input.count;
@@ -16,6 +19,7 @@ fn main() {
     let mut deleters = [0u32; 4096];
     let mut block = [0u8; 65536];
     let printed = print_output(
+        &mut rt.stdout(),
         &file[..length],
         &mut addresses,
         &mut links,
@@ -23,7 +27,10 @@ fn main() {
         &mut block,
     );
     let Printout::Whole = printed else {
-        streams::complain(b"conchladle: standard output takes no more\n");
+        streams::complain(
+            &mut rt.stderr(),
+            b"conchladle: standard output takes no more\n",
+        );
         return;
     };
 }
