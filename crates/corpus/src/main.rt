@@ -7,6 +7,7 @@ ghost use Rattle.std.specs.Prelude.{◌<◌, ◌≤◌, length};
 
 use numbers::{NumberRead, read_number};
 use printer::{Printout, print_output};
+use std::io::{Read, Write};
 use streams::Input;
 
 fn least(a: usize, b: usize) -> usize
@@ -19,44 +20,57 @@ fn least(a: usize, b: usize) -> usize
 }
 
 // What standard error is told where a length is no number, or the input ends inside a length or a file.
-fn not_packed() {
-    streams::complain(b"corpus: standard input is not a row of packed files\n");
+fn not_packed<E: Write>(errors: &mut E) {
+    streams::complain(
+        errors,
+        b"corpus: standard input is not a row of packed files\n",
+    );
 }
 
 // Whether so many bytes came; where they did not, it is said why.
-fn came(input: Input, count: usize) -> bool {
+fn came<E: Write>(errors: &mut E, input: Input, count: usize) -> bool {
     if input.broken {
-        streams::complain(b"corpus: standard input can't be read\n");
+        streams::complain(errors, b"corpus: standard input can't be read\n");
         return false;
     }
     if input.count < count {
-        not_packed();
+        not_packed(errors);
         return false;
     }
     true
 }
 
 // Reads so many bytes to the start of the space; whether they came.
-fn read_bytes(space: &mut [u8], count: usize) -> bool
+fn read_bytes<R: Read, E: Write>(
+    from: &mut R,
+    errors: &mut E,
+    space: &mut [u8],
+    count: usize,
+) -> bool
     requires { count ≤ length space.old }
 {
-    let input = streams::read_in(&mut space[..count]);
-    came(input, count)
+    let input = streams::read_in(from, &mut space[..count]);
+    came(errors, input, count)
 }
 
 // Reads so many bytes and drops them; whether they came.
-fn drop_bytes(space: &mut [u8], count: usize) -> bool
+fn drop_bytes<R: Read, E: Write>(
+    from: &mut R,
+    errors: &mut E,
+    space: &mut [u8],
+    count: usize,
+) -> bool
     requires { 0 < length space.old }
 {
     let room = space.len();
     let mut left = count;
     while room < left {
-        if !read_bytes(space, room) {
+        if !read_bytes(from, errors, space, room) {
             return false;
         }
         left -= room;
     }
-    read_bytes(space, left)
+    read_bytes(from, errors, space, left)
 }
 
 // Whether the input ended before a byte came.
@@ -69,16 +83,16 @@ fn ended(input: Input) -> bool {
 
 // The bytes of the next length: up to the first without its top bit, as many as there is room for. Answers how many; none where the input ends
 // before them, or they did not come.
-fn read_groups(groups: &mut [u8]) -> usize
+fn read_groups<R: Read, E: Write>(from: &mut R, errors: &mut E, groups: &mut [u8]) -> usize
     ensures { result ≤ length groups.new }
 {
     let mut n: usize = 0;
     while n < groups.len() {
-        let input = streams::read_in(&mut groups[n..n + 1]);
+        let input = streams::read_in(from, &mut groups[n..n + 1]);
         if n == 0 && ended(input) {
             return 0;
         }
-        if !came(input, 1) {
+        if !came(errors, input, 1) {
             return 0;
         }
         let group = groups[n];
@@ -107,15 +121,21 @@ fn no_file() -> NextFile
 }
 
 // The bytes of a file, as many as there is room for; the rest are dropped.
-fn read_file(space: &mut [u8], spare: &mut [u8], size: usize) -> NextFile
+fn read_file<R: Read, E: Write>(
+    from: &mut R,
+    errors: &mut E,
+    space: &mut [u8],
+    spare: &mut [u8],
+    size: usize,
+) -> NextFile
     requires { 0 < length spare.old }
     ensures { result.length ≤ length space.new }
 {
     let kept = least(size, space.len());
-    if !read_bytes(space, kept) {
+    if !read_bytes(from, errors, space, kept) {
         return no_file();
     }
-    if !drop_bytes(spare, size - kept) {
+    if !drop_bytes(from, errors, spare, size - kept) {
         return no_file();
     }
     NextFile {
@@ -125,40 +145,50 @@ fn read_file(space: &mut [u8], spare: &mut [u8], size: usize) -> NextFile
 }
 
 // The next length and its file.
-fn next_file(space: &mut [u8], spare: &mut [u8]) -> NextFile
+fn next_file<R: Read, E: Write>(
+    from: &mut R,
+    errors: &mut E,
+    space: &mut [u8],
+    spare: &mut [u8],
+) -> NextFile
     requires { 0 < length spare.old }
     ensures { result.length ≤ length space.new }
 {
     let mut groups = [0u8; 5];
-    let n = read_groups(&mut groups);
+    let n = read_groups(from, errors, &mut groups);
     if n == 0 {
         return no_file();
     }
     let read = read_number(&groups[..n], 0);
     let NumberRead::Got(size, _) = read else {
-        not_packed();
+        not_packed(errors);
         return no_file();
     };
-    read_file(space, spare, size as usize)
+    read_file(from, errors, space, spare, size as usize)
 }
 
 // Runs a file; whether all of its output was written.
-fn prints(
+fn prints<W: Write, E: Write>(
+    to: &mut W,
+    errors: &mut E,
     file: &[u8],
     addresses: &mut [u32],
     links: &mut [u32],
     deleters: &mut [u32],
     block: &mut [u8],
 ) -> bool {
-    let printed = print_output(file, addresses, links, deleters, block);
+    let printed = print_output(to, file, addresses, links, deleters, block);
     let Printout::Whole = printed else {
-        streams::complain(b"corpus: standard output takes no more\n");
+        streams::complain(errors, b"corpus: standard output takes no more\n");
         return false;
     };
     true
 }
 
-fn main() {
+fn main(rt: HostRuntime) {
+    let mut from = rt.stdin();
+    let mut to = rt.stdout();
+    let mut errors = rt.stderr();
     let mut space = [0u8; 65537];
     let mut addresses = [0u32; 4096];
     let mut links = [0u32; 4096];
@@ -168,12 +198,14 @@ fn main() {
     let mut left: u64 = 18446744073709551615;
     while 0 < left {
         left -= 1;
-        let file = next_file(&mut space, &mut block);
+        let file = next_file(&mut from, &mut errors, &mut space, &mut block);
         if !file.there {
             return;
         }
         let length = file.length;
         if !prints(
+            &mut to,
+            &mut errors,
             &space[..length],
             &mut addresses,
             &mut links,
