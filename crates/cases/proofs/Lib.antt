@@ -1,4 +1,2 @@
 pub mod LentPart
 pub mod Pieces
-pub mod RecordArray
-pub mod ActsInRow

@@ -14,6 +14,7 @@ ghost use Rattle.cases.specs.Lengths.{FewWords};
 use lent::Said;
 use reading::{LentRecords, Taken};
 use record::{Event, Record};
+use std::io::Write;
 use words::Sizes;
 
 // The records after an event, and what it says.
@@ -79,14 +80,14 @@ struct Stand {
 }
 
 // A block more than half full is written out; where that can't be, nothing more is read or written.
-fn emptied(block: &[u8], from: Stand, end: usize) -> Stand
+fn emptied<W: Write>(to: &mut W, block: &[u8], from: Stand, end: usize) -> Stand
     requires { Gathered block.now from.used block_bytes }
     ensures { result.used ≤ half_block }
 {
     if from.used <= 32768 {
         return from;
     }
-    if writing::write_out(block, from.used) {
+    if writing::write_out(to, block, from.used) {
         return Stand {
             used: 0,
             at: from.at,
@@ -101,17 +102,18 @@ fn emptied(block: &[u8], from: Stand, end: usize) -> Stand
 }
 
 // A bad case ends the output.
-fn bad_case(block: &[u8], used: usize) -> bool
+fn bad_case<W: Write>(to: &mut W, block: &[u8], used: usize) -> bool
     requires { Gathered block.now used half_block }
 {
-    if writing::write_out(block, used) {
-        return io::write_all(1, b"bad case\n");
+    if writing::write_out(to, block, used) {
+        return streams::write_all(to, b"bad case\n");
     }
     false
 }
 
 // Reads the row and the event of a case whose tables are lent, and answers it. After a bad case nothing is read.
-fn work_on(
+fn work_on<W: Write>(
+    to: &mut W,
     input: &[u8],
     before: Taken,
     block: &mut [u8],
@@ -129,7 +131,7 @@ fn work_on(
     let taken_event = reading::take_event(input, taken_row.last);
     let last = taken_event.last;
     if !last.good {
-        let good = bad_case(block, used);
+        let good = bad_case(to, block, used);
         return Stand {
             used: 0,
             at: input.len(),
@@ -147,7 +149,8 @@ fn work_on(
 }
 
 // Works on the case at a place.
-fn work_at(input: &[u8], block: &mut [u8], used: usize, at: usize) -> Stand
+#[tactic(auto, using(crate::proofs::LentPart::lent_few))]
+fn work_at<W: Write>(to: &mut W, input: &[u8], block: &mut [u8], used: usize, at: usize) -> Stand
     requires { Gathered block.old used half_block }
     ensures { Gathered block.new result.used block_bytes }
 {
@@ -162,6 +165,7 @@ fn work_at(input: &[u8], block: &mut [u8], used: usize, at: usize) -> Stand
     let mut links = taken_links.words;
     let mut deleters = taken_deleters.words;
     work_on(
+        to,
         input,
         taken_deleters.last,
         block,
@@ -174,27 +178,27 @@ fn work_at(input: &[u8], block: &mut [u8], used: usize, at: usize) -> Stand
 }
 
 // Works on the next case, if there is one.
-fn work(input: &[u8], block: &mut [u8], from: Stand) -> Stand
+fn work<W: Write>(to: &mut W, input: &[u8], block: &mut [u8], from: Stand) -> Stand
     requires { Gathered block.old from.used block_bytes }
     ensures { Gathered block.new result.used block_bytes }
 {
     if input.len() <= from.at {
         return from;
     }
-    let stand = emptied(block, from, input.len());
+    let stand = emptied(to, block, from, input.len());
     if !stand.good {
         return stand;
     }
-    work_at(input, block, stand.used, stand.at)
+    work_at(to, input, block, stand.used, stand.at)
 }
 
 // What standard error is told where output can't be written.
-fn cut_off() {
-    streams::complain(b"cases: standard output takes no more\n");
+fn cut_off<W: Write>(to: &mut W) {
+    streams::complain(to, b"cases: standard output takes no more\n");
 }
 
 // Answers every case of the input; a case takes at least a byte.
-fn answer_all(input: &[u8]) {
+fn answer_all<W: Write, E: Write>(to: &mut W, errors: &mut E, input: &[u8]) {
     let mut block = [0u8; 65536];
     let mut stand = Stand {
         used: 0,
@@ -202,23 +206,23 @@ fn answer_all(input: &[u8]) {
         good: true,
     };
     for _ in 0..input.len() {
-        stand = work(input, &mut block, stand);
+        stand = work(to, input, &mut block, stand);
     }
     if stand.good {
-        if writing::write_out(&block, stand.used) {
+        if writing::write_out(to, &block, stand.used) {
             return;
         }
     }
-    cut_off();
+    cut_off(errors);
 }
 
-fn main() {
+fn main(rt: HostRuntime) {
     let mut bytes = [0u8; 262144];
-    let input = streams::read_in(&mut bytes);
+    let input = streams::read_in(&mut rt.stdin(), &mut bytes);
     if input.broken {
-        streams::complain(b"cases: standard input can't be read\n");
+        streams::complain(&mut rt.stderr(), b"cases: standard input can't be read\n");
         return;
     }
     let length = input.count;
-    answer_all(&bytes[..length]);
+    answer_all(&mut rt.stdout(), &mut rt.stderr(), &bytes[..length]);
 }

@@ -1,7 +1,8 @@
 // The line of a case: what the event came to, the count, the words of the three tables and the fields of every record, as they are afterwards.
 // Output is gathered in a block through the writers of text. A line starts in the first half of the block and ends within it: specs/Block says how
 // many bytes each part of it takes at most. A block more than half full is written out before the next line.
-ghost use Rattle.std.specs.Prelude.{[], ◌∷◌, ◌≡◌, ◌+◌, ◌≤◌, length};
+ghost use Rattle.std.specs.Prelude.{[], ◌∷◌, ◌≡◌, ◌+◌, ◌≤◌, length, take};
+ghost use Rattle.streams.specs.Written.{Written};
 ghost use Rattle.cases.specs.Block.{Gathered, last_end, outcome_room, number_room, said_room, words_room, tables_room, record_room, row_room, line_room};
 ghost use Rattle.cases.specs.Lengths.{FewWords};
 ghost use Rattle.text.specs.Text.{decimal, newline, outcome_text, space};
@@ -9,12 +10,14 @@ ghost use Rattle.text.specs.Text.{decimal, newline, outcome_text, space};
 use crate::reading::LentRecords;
 use lent::Said;
 use record::{Outcome, Record};
+use std::io::Write;
 
-// Writes out what the block holds; whether standard output took it.
-pub(crate) fn write_out(block: &[u8], used: usize) -> bool
+// Writes out what the block holds; whether the writer took it.
+pub(crate) fn write_out<W: Write>(to: &mut W, block: &[u8], used: usize) -> bool
     requires { used ≤ length block.now }
+    ensures { Written (W.contents to.old) (W.contents to.new) (take used block.now) result }
 {
-    io::write_all(1, &block[..used])
+    streams::write_all(to, &block[..used])
 }
 
 // What an event came to.
