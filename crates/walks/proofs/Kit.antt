@@ -10,7 +10,7 @@ pub use borrow.Author.Rules.{scaled_Fits}
 pub use borrow.Table.Elements.{at, same_len, cut_app, join_app}
 pub use contract.Lifetimes.{Lfts, Shares, toks, AllOutlive}
 pub use contract.Monad.{Fun, fact, fact_i, fact_use}
-pub use contract.Running.{given_of, tables, Running}
+pub use contract.Running.{tables, Running}
 unfoldable pub use contract.Running.{tables_of}
 pub use denote.Array.{Array, array_vals, Array-Tells, Array-Makes, Array-Typed, each}
 pub use denote.ArrayMemory.{Array-apart, Array-whole}
@@ -42,8 +42,8 @@ pub use denote.Triple.Statement.{Triple, Contract}
 pub use denote.Triple.Table.{entered, cited}
 pub use denote.Triple.Walked.{says, Stays, stay_ref, stay_slice, gave_slice, stay_none, Goes-ref, Goes-slice, Goes-gave_slice, Goes-none, walk_of}
 pub use denote.Triple.Walked.{ends_at, walked, walk_Meets, Stay, Goes, AllGo, Fit, Ending}
-pub use ghost.Atoms.{Atoms, sem}
-pub use seplogic.Ra.TreeShare.{full_share}
+pub use ghost.Atoms.{Atoms}
+pub use base.Fraction.{full_share}
 pub use seplogic.Ra.Ura.{Ura}
 pub use lib.Dec.{ltb, ltb→lt, nltb→le, leb→le, nleb→lt, T as Holds, lit<}
 pub use lib.ListN.{length, set, get_or, length-set, take, take-append-drop, replicate, length-map}
@@ -54,8 +54,9 @@ pub use mathlib.Core.Path.{◌≡◌, refl, sym, ap, subst, ◌∙◌}
 pub use mathlib.Core.WellFounded.InvImage.{wf as InvImage·wf}
 pub use mathlib.Core.WellFounded.{WellFounded}
 pub use mir.Fields.{get_v, set_v}
-pub use mir.Syntax.{named, w32, w64, ty_unit, Body, Opd, Place, seq, call, Name, Sym, Ty, Tys, ty_struct, tcons, tnil, ty_int, Step as PStep, deref}
+pub use mir.Syntax.{named, w32, w64, ty_unit, Body, Opd, Place, seq, call, Callee, Sym, Ty, Tys, ty_struct, tcons, tnil, ty_int, Step as PStep, deref}
 pub use mir.Syntax.{field, place, copy, addr_of, aggregate, assign, Fn, Local, local, skip, block, loop, cond, switch, exit, return, Width, Lifetime}
+pub use mir.Syntax.{call_v, lend_static, unreachable}
 pub use mir.Syntax.{ty_array}
 pub use mir.Val.{Val, vint, vptr, vunit, WT, has_ty, Fits, Vals, vstruct}
 pub use native.Mathlib.Nat.{lt_of_le_of_lt, lt_of_lt_of_le, le_antisymm, le_trans, le_of_lt}
@@ -67,9 +68,10 @@ pub use prog.Routine.{Routine}
 pub use prog.Wp.{Heap, Calls, Loops, WpFn, Tables, Env, Out, after_block, after_seq, Wp, at_return, Spot, spot_of, Closed}
 unfoldable pub use prog.Wp.{after_turn}
 pub use sound.WpLaws.{FmC, fm_of, WpFn-mono}
-pub use types.Kit.{Given, Item, Sq, Post, Go, ‵, raw, some, later, ◌⊛◌, ⋆, ◌$◌, ◌∵◌, !, qed, by, move, keep, drop, use1, use2, split, join, pick}
+pub use types.Kit.{Item, Sq, Post, Go, ‵, raw, some, later, ◌⊛◌, ⋆, ◌$◌, ◌∵◌, !, qed, by, move, keep, drop, use1, use2, split, join, pick}
 pub use types.Kit.{await, rewrite, fsplit, fsplit3, fjoin, fjoin3, feq_i, feq_l, suffices, frame, done, any_q, at_ret, runs, lands, mean, cut, Step, step}
 pub use types.Kit.{Soaks, nth, put, params', Goal, Seq, frees, allocs, prop, use3, fpick, fpack, drop as let_go}
+pub use types.Logic.{sem}
 pub use types.Part.{agg, Part, whole, sub, look_in}
 pub use types.Run.{look, look_raw, init, store, store_raw, forget, stop, hop, from, load, lit, unit_lit, of_opd, un, bin, and_then, no_more, Opds}
 pub use types.Run.{assigns, assigns_last, land, returns, returns_within, enter, params1, pass1, pass0, first, branches, skips, exec, blocks, jumps}

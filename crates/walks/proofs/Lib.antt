@@ -5,6 +5,4 @@ pub mod Values
 pub mod Record
 pub mod Calls
 pub mod Parameters
-pub mod Rows
 pub mod Fresh
-pub mod Tables

@@ -1,7 +1,7 @@
 -- The locals of a walked function: all taken at once and freed at once, where each stands in the context, and the parts of the function's body.
 -- Locals are had the last first, two entries each: the cell, then the right to free it. Rests on the logic's steps for locals.
 use Rattle.walks.proofs.Kit.{refl, ℕ, zero, suc, ◌+◌, ◌*◌, ◌-◌, [], ◌∷◌, List, ◌++◌, Ura, full_share, Ty, Local, local, ty_unit, Body, skip, seq}
-use Rattle.walks.proofs.Kit.{assign, block, loop, cond, switch, exit, return, call, Val, fat, froom, fdies, Env, Item}
+use Rattle.walks.proofs.Kit.{assign, block, loop, cond, switch, exit, return, call, call_v, lend_static, unreachable, Val, fat, froom, fdies, Env, Item}
 use Rattle.walks.proofs.Kit.{Goal, Seq, frees, allocs, ‵, ◌$◌, forget, alloc1, alloc0, free1, free0}
 use types.Logic.{Logic}
 
@@ -87,6 +87,9 @@ apart (switch c arms) = (skip, skip)
 apart (exit n) = (skip, skip)
 apart return = (skip, skip)
 apart (call f xs d) = (skip, skip)
+apart (call_v f xs vs d) = (skip, skip)
+apart (lend_static p τ c) = (skip, skip)
+apart unreachable = (skip, skip)
 
 -- into a body
 abbrev pub into : Body → Body

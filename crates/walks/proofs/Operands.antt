@@ -3,7 +3,7 @@
 use Rattle.walks.proofs.Kit.{◌<◌, ◌^◌, ◌≡◌, sym, subst, ℕ, zero, ◌+◌, [], ◌∷◌, List, Ura, Holds, full_share, Sym, Ty, Tys, ty_struct, tcons}
 use Rattle.walks.proofs.Kit.{tnil, ty_int, w64, PStep, deref, field, place, copy, addr_of, aggregate, Body, seq, assign, Val, Vals, vstruct}
 use Rattle.walks.proofs.Kit.{vptr, has_ty, get_v, set_v, field_at, Heap, Env, Spot, spot_of, Calls, Loops, Share, fat, froom, Item}
-use Rattle.walks.proofs.Kit.{Post, Step, step, runs, ◌$◌, ‵, nth, put, Part, agg, whole, sub, look_in, Reads, Walks, find_kind, Rv, assigns, init}
+use Rattle.walks.proofs.Kit.{Post, Step, step, runs, ◌$◌, ‵, nth, put, Part, agg, whole, sub, look_in, Reads, Walks, Finds, Rv, assigns, init}
 use Rattle.walks.proofs.Kit.{look, stop, hop, fld, from, load, addr, and_then, no_more, slice_ty, slice_val}
 use mathlib.Core.Option.{some}
 use types.Logic.{Logic}
@@ -20,7 +20,7 @@ module _ {M : Type 1} {𝓤 : Ura M} {𝓛 : Logic 𝓤} {K : Type 0} {Γ : List
 
   module _ {E : Env 𝓤 H} where
     -- a local as a place
-    pub at_local : K → {i : ℕ} → find_kind K 𝓛 Γ E (place i []) (spot_of 𝓤 H E i)
+    pub at_local : K → {i : ℕ} → Finds K 𝓛 Γ E (place i []) (spot_of 𝓤 H E i)
     at_local t = from t (stop t)
 
     -- a local copied
@@ -30,7 +30,7 @@ module _ {M : Type 1} {𝓤 : Ura M} {𝓛 : Logic 𝓤} {K : Type 0} {Γ : List
 
     found : K → (k : ℕ) {i : ℕ} {ν : Sym} {τs : Tys} {b : ℕ} {τ : Ty} {d : ℕ} {st : List PStep} {sp : Spot 𝓤 H}
         → spot_of 𝓤 H E i ≡ (ty_struct ν τs, b, zero) → field_at zero τs k ≡ some (τ, d) → Walks K 𝓛 Γ E (τ, b, zero + d) st sp
-        → find_kind K 𝓛 Γ E (place i (field k ∷ st)) sp
+        → Finds K 𝓛 Γ E (place i (field k ∷ st)) sp
     found t k {st = st} {sp} s f w = from t (subst (λ (x : Spot 𝓤 H). Walks K 𝓛 Γ E x (field k ∷ st) sp) (sym s) (fld t f w))
 
     -- field k of a local copied

@@ -3,11 +3,11 @@
 use types.Logic.{Logic}
 use denote.Slice.{mut_slice_vals}
 use denote.Ref.{mut_vals}
-use Rattle.walks.proofs.Kit.{◌≡◌, ℕ, [], ◌∷◌, List, Ura, Fn, Name, Val, SProp, ent, via, fst∗, snd∗, ftrue, Heap, WpFn, Tables, Closed, Model}
-use Rattle.walks.proofs.Kit.{Routine, fact, fact_use, running_status, tables, tables_of, WpFn-mono, Lfts, Shares, AllOutlive, Item, Sq}
+use Rattle.walks.proofs.Kit.{◌≡◌, ℕ, [], ◌∷◌, List, Ura, Fn, Callee, Val, SProp, ent, via, fst∗, snd∗, ftrue, Heap, WpFn, Tables, Closed, Model}
+use Rattle.walks.proofs.Kit.{Routine, fact, fact_use, Running, tables, tables_of, WpFn-mono, Lfts, Shares, AllOutlive, Item, Sq}
 use Rattle.walks.proofs.Kit.{runs, params', at_ret, ‵, raw, ◌$◌, ◌∵◌, !, qed, use1, enter, Kept, yes, Last, left, Is, Are, Ises, Spells, valss}
-use Rattle.walks.proofs.Kit.{Tells, Tellss, owns, flat, ptr-vals, mut_Tells, Slot, AllWithin, name_of, meet_at, plain, mut_ref_to, mut_slice_of}
-use Rattle.walks.proofs.Kit.{types_at, slice-vals, mut_slice_Tells, Clauses, Ended, Lasts, closing, Kepts, Args, Res, alive, on_entry, Meets}
+use Rattle.walks.proofs.Kit.{Tells, Tellss, owns, flat, mut_Tells, Slot, AllWithin, name_of, meet_at, plain, mut_ref_to, mut_slice_of}
+use Rattle.walks.proofs.Kit.{types_at, mut_slice_Tells, Clauses, Ended, Lasts, closing, Kepts, Args, Res, alive, on_entry, Meets}
 use Rattle.walks.proofs.Kit.{Contract, Triple, entered, cited, Stay, Stays, stay_ref, stay_slice, gave_slice, stay_none, Goes, Goes-ref}
 use Rattle.walks.proofs.Kit.{Goes-slice, Goes-gave_slice, Goes-none, AllGo, Fit, Ending, walk_of, ends_at, walked, walk_Meets, Signature}
 use prog.Routine.{Env}
@@ -157,18 +157,18 @@ module _ (T : Ended) (ps : Parameters T.signature.params T.kept) where
 
 -- ---- the machine's tables
 
-module _ {M : Type 1} (𝓤 : Ura M) (H : Heap 𝓤) (𝓜 : Model 𝓤 H) (𝓡 : running_status 𝓤 H 𝓜) (γ : Env) where
+module _ {M : Type 1} (𝓤 : Ura M) (H : Heap 𝓤) (𝓜 : Model 𝓤 H) (𝓡 : Running 𝓤 H 𝓜) (γ : Env) where
   -- the tables over which a function's MIR runs, by what its names stand for
   abbrev pub tables_over : Tables 𝓤 H
   tables_over = tables_of 𝓤 H 𝓜 (tables 𝓤 H 𝓜 𝓡 γ)
 
   -- a callee's routine meets a contract: so does the entry that stands for it
-  pub cites : (c : Contract 𝓤) (k : Name) (r : Routine) → γ k ≡ r → Triple 𝓤 (𝓡.run r) c → Triple 𝓤 (tables_over.C k) c
+  pub cites : (c : Contract 𝓤) (k : Callee) (r : Routine) → γ k ≡ r → Triple 𝓤 (𝓡.run r) c → Triple 𝓤 (tables_over.C k) c
   unfolding tables_of
   cites c = cited 𝓤 H c 𝓜 𝓡 γ
 
   -- a function's MIR meets a contract: so does the entry that stands for it
-  pub enters : (c : Contract 𝓤) (k : Name) (f : Fn) → Closed 𝓤 H (tables 𝓤 H 𝓜 𝓡 γ).C (tables 𝓤 H 𝓜 𝓡 γ).Λ k f
+  pub enters : (c : Contract 𝓤) (k : Callee) (f : Fn) → Closed 𝓤 H (tables 𝓤 H 𝓜 𝓡 γ).C (tables 𝓤 H 𝓜 𝓡 γ).Λ k f
       → Triple 𝓤 (WpFn 𝓤 H tables_over.C tables_over.Λ f) c → Triple 𝓤 (𝓡.run (γ k)) c
   unfolding tables_of
   enters c = entered 𝓤 H c (tables 𝓤 H 𝓜 𝓡 γ).C (tables 𝓤 H 𝓜 𝓡 γ).Λ
