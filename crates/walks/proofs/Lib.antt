@@ -6,3 +6,5 @@ pub mod Record
 pub mod Calls
 pub mod Parameters
 pub mod Fresh
+pub mod Rows
+pub mod Tables

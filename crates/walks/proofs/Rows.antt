@@ -1,15 +1,16 @@
 -- Steps that every walk over lent records takes, whatever else its context holds. Rests on the logic's steps for slices.
 --     takes, puts      record i is taken out of an opened row; another is put in its place
 --     row_opened       a row that is owned is opened: its records, the open borrow, and the two halves of its name
---     row-closed       it is owned again, with a list of the length that it had
---     given-up         a `&mut [T]` that was not touched says its last list
+--     row_closed       it is owned again, with a list of the length that it had
+--     given_back       a `&mut [T]` that was not touched says its last list, beside its borrow, closed
+--     given_up         the same, and the borrow is let go
 use types.Logic.{Logic}
 use denote.Slice.{mut_slice_at}
 use denote.Ref.{MutBor}
-use Rattle.walks.proofs.Kit.{Soaks, fobor, fauth, flft, opens_slice, closes_slice, ◌≡◌, sym, ap, subst, ℕ, ◌<◌, [], ◌∷◌, List, length, set}
+use Rattle.walks.proofs.Kit.{Soaks, fbor, fobor, fauth, flft, opens_slice, closes_slice, ◌≡◌, sym, ap, subst, ℕ, ◌<◌, [], ◌∷◌, List, length, set}
 use Rattle.walks.proofs.Kit.{get_or, Ura, full_share, Lifetime, Val, Lft, GName, Share, fobs, fres, Item, Goal, Seq, Step}
-use Rattle.walks.proofs.Kit.{step, ‵, ◌$◌, move, drop, use1, fsplit, fjoin, RattleType, Is, shows, cell_at, shares, pure_i, RefT, slice_val}
-use Rattle.walks.proofs.Kit.{MutSlice, Room, heres, coded_holeys, at-slice, finally, res-finally, Held, row, others, elem_out, elem_put, owned}
+use Rattle.walks.proofs.Kit.{step, ‵, ◌$◌, move, drop, use1, fsplit, fjoin, RattleType, Is, shows, cell_at, shares, pure_i, slice_val}
+use Rattle.walks.proofs.Kit.{MutSlice, Room, heres, coded_holeys, finally, res-finally, Held, row, others, elem_out, elem_put, owned}
 use denote.Index.{place}
 use Rattle.record.specs.declared.Record.{Record}
 use Rattle.walks.proofs.Record.{record_values, R, vals, size}
@@ -41,6 +42,13 @@ module _ {M : Type 1} {𝓤 : Ura M} {𝓛 : Logic 𝓤} {K : Type 0} {Γ : List
   row_closed t soaks ℓ {γ = γ} ys zs b o room e = step (λ s. closes_slice t soaks R ys zs e b o $ fjoin t $
       pure_i t (mut_slice_at R (record { ref_ptr = (b, o); ghost_name = γ; now = zs }) (slice_val (b, o) (length ys) ∷ [])) (tt, (tt, tt))
       (ap (λ (m : ℕ). slice_val (b, o) m ∷ []) (sym e), subst (Room R) (sym e) room) $ fjoin t $ s)
+
+  pub given_back : K → (ℓ : Lifetime) (κ : Lft) (T : RattleType) (x : MutBor (List T.Denot)) (vs : List Val)
+      → Step K 𝓛 (‵ (finally T x.ghost_name x.now) ∷ ‵ (fbor κ (Held T (length x.now) x.ref_ptr.0 x.ref_ptr.1 x.ghost_name)) ∷ Γ) G
+      (‵ ((MutSlice ℓ κ T).own_val x vs) ∷ Γ) G
+  given_back t ℓ κ T x vs = step (λ s. fsplit t $ drop t $ fsplit t $
+      use1 𝓛 (‵ (fres x.ghost_name ((coded_holeys T).code (heres T x.now)))) (𝓛.names.obs-res x.ghost_name ((coded_holeys T).code (heres T x.now))) $
+      use1 𝓛 (‵ (finally T x.ghost_name x.now)) (res-finally 𝓛 ℓ κ T x.ghost_name x.now) $ s)
 
   pub given_up : K → (ℓ : Lifetime) (κ : Lft) (T : RattleType) (x : MutBor (List T.Denot)) (vs : List Val)
       → Step K 𝓛 (‵ (finally T x.ghost_name x.now) ∷ Γ) G (‵ ((MutSlice ℓ κ T).own_val x vs) ∷ Γ) G

@@ -6,13 +6,13 @@ use denote.Slice.{mut_slice_vals}
 use denote.Ref.{MutBor}
 use Rattle.walks.proofs.Kit.{Slot, AllWithin, plain, mut_slice_of, sep, Fml, fsep, feq, sem, Goal, Seq, Step, step, cut, prop, mean, ℕ, ◌≡◌}
 use Rattle.walks.proofs.Kit.{refl, [], ◌∷◌, List, length, Ura, named, Val, id⊢, emp, Lft, Lfts, Share, Shares, ftrue, flft}
-use Rattle.walks.proofs.Kit.{Item, ‵, ◌⊛◌, ◌$◌, move, split, join, fsplit, fsplit3, fjoin, feq_l, done, nothing, u32, RefT, slice-vals}
+use Rattle.walks.proofs.Kit.{Item, ‵, ◌⊛◌, ◌$◌, move, split, join, fsplit, fsplit3, fjoin, feq_l, done, nothing, u32, fbor, Held}
 use Rattle.walks.proofs.Kit.{MutSlice, finally, yes}
 use Rattle.table.specs.Words.{Memory}
 use Rattle.words.specs.declared.Sizes.{Sizes}
 use Rattle.words.specs.LentMemory.{lent_memory}
 use Rattle.walks.proofs.Parameters.{Parameter, slice_passed_on}
-use Rattle.walks.proofs.Rows.{given_up}
+use Rattle.walks.proofs.Rows.{given_back}
 
 -- a table of words, as the slot of a signature
 abbrev pub words : {n : ℕ} → Slot n
@@ -76,9 +76,17 @@ fitting same others = (same.addresses, (same.links, (same.deleters, others)))
 abbrev Own : ℕ → Lft → MutBor (List ℕ) → Fml
 Own j κ x = (MutSlice (named j) κ u32).own_val x (mut_slice_vals x)
 
--- what a callee says of a table that was passed on to it
-abbrev lastly : MutBor (List ℕ) → List ℕ → Fml
-lastly x ws = fsep (finally u32 x.ghost_name ws) (feq ℕ (length ws) (length x.now))
+-- the borrow of a table, closed
+abbrev Borrowed : Lft → MutBor (List ℕ) → Fml
+Borrowed κ x = fbor κ (Held u32 (length x.now) x.ref_ptr.0 x.ref_ptr.1 x.ghost_name)
+
+-- what a callee says of a table that was passed on to it, and hands back
+abbrev lastly : Lft → MutBor (List ℕ) → List ℕ → Fml
+lastly κ x ws = fsep (fsep (finally u32 x.ghost_name ws) (feq ℕ (length ws) (length x.now))) (Borrowed κ x)
+
+-- the same as a function's last word of a table, whose length is said apart
+abbrev Lastly : Lft → MutBor (List ℕ) → List ℕ → Fml
+Lastly κ x ws = fsep (finally u32 x.ghost_name ws) (Borrowed κ x)
 
 module _ {M : Type 1} (𝓤 : Ura M) (ts : LentTables) where
   -- their lifetimes, then others
@@ -99,11 +107,11 @@ module _ {M : Type 1} (𝓤 : Ura M) (ts : LentTables) where
   Lent Γ =
       Lifetimes (‵ (Own 0 ts.κs.0 ts.addresses) ∷ ‵ (Own 1 ts.κs.1.0 ts.links) ∷ ‵ (Own 2 ts.κs.1.1.0 ts.deleters) ∷ Γ)
 
-  -- before Γ: the last words of the deleters, the links and the addresses
+  -- before Γ: the last words of the deleters, the links and the addresses, each with its table's borrow
   abbrev LastWords : Memory → List (Item 𝓤) → List (Item 𝓤)
   LastWords m Γ =
-      ‵ (finally u32 ts.deleters.name m.deleters) ∷ ‵ (finally u32 ts.links.name m.links)
-      ∷ ‵ (finally u32 ts.addresses.name m.addresses) ∷ Γ
+      ‵ (Lastly ts.κs.1.1.0 ts.deleters m.deleters) ∷ ‵ (Lastly ts.κs.1.0 ts.links m.links)
+      ∷ ‵ (Lastly ts.κs.0 ts.addresses m.addresses) ∷ Γ
 
   -- before Γ: the lifetimes, then the last words
   abbrev pub Last : Memory → List (Item 𝓤) → List (Item 𝓤)
@@ -118,6 +126,12 @@ module _ {M : Type 1} {𝓤 : Ura M} {𝓛 : Logic 𝓤} {K : Type 0} where
 
     tokens_together : {X : Item 𝓤} → Step K 𝓛 (Tokens 𝓤 ts X ∷ Γ) G (Lifetimes 𝓤 ts (X ∷ Γ)) G
     tokens_together {X} = cut (Lifetimes 𝓤 ts (X ∷ [])) (Tokens 𝓤 ts X ∷ []) Γ (id⊢ 𝓤 _)
+
+  module _ {Γ : List (Item 𝓤)} {G : Goal 𝓤 H} where
+    -- of what a callee says of the first table: what is said of its length, what is said of the others, and its last words
+    last_word : K → (κ : Lft) (x : MutBor (List ℕ)) (ws : List ℕ) {P : Fml}
+        → Step K 𝓛 (‵ P ∷ ‵ (feq ℕ (length ws) (length x.now)) ∷ ‵ (Lastly κ x ws) ∷ Γ) G (‵ (fsep (lastly κ x ws) P) ∷ Γ) G
+    last_word t κ x ws = step (λ s. fsplit t $ fsplit t $ fsplit t $ move t (0 ∷ 2 ∷ []) $ fjoin t $ move t (2 ∷ 1 ∷ []) $ s)
 
   module _ {Γ : List (Item 𝓤)} {G : Goal 𝓤 H} where
     -- one lifetime more is had with those of the tables; and apart from them
@@ -138,24 +152,25 @@ module _ {M : Type 1} {𝓤 : Ura M} {𝓛 : Logic 𝓤} {K : Type 0} where
     -- where they were not touched, their last words are their words
     pub untouched : K → (ts : LentTables) (sizes : Sizes) → Step K 𝓛 (Last 𝓤 ts (memory_lent ts sizes) Γ) G (Lent 𝓤 ts Γ) G
     untouched t ts sizes = step (λ s.
-        move t (3 ∷ []) $ given_up t (named 0) ts.κs.0 u32 ts.addresses _ $
-        move t (4 ∷ []) $ given_up t (named 1) ts.κs.1.0 u32 ts.links _ $
-        move t (5 ∷ []) $ given_up t (named 2) ts.κs.1.1.0 u32 ts.deleters _ $
+        move t (3 ∷ []) $ given_back t (named 0) ts.κs.0 u32 ts.addresses _ $ fjoin t $
+        move t (4 ∷ []) $ given_back t (named 1) ts.κs.1.0 u32 ts.links _ $ fjoin t $
+        move t (5 ∷ []) $ given_back t (named 2) ts.κs.1.1.0 u32 ts.deleters _ $ fjoin t $
         nothing t $ move t (4 ∷ 5 ∷ 6 ∷ 0 ∷ []) $ tokens_together t ts $ s)
 
     -- after a call to which they were passed on: their last words, as many as there were
     pub last_words : K → (ts : LentTables) (m : Memory) {P : Fml} → (SameLengths ts m → Seq K 𝓛 (LastWords 𝓤 ts m (‵ P ∷ Γ)) G)
-        → Seq K 𝓛 (‵ (fsep (lastly ts.addresses m.addresses)
-        (fsep (lastly ts.links m.links) (fsep (lastly ts.deleters m.deleters) P))) ∷ Γ) G
+        → Seq K 𝓛 (‵ (fsep (lastly ts.κs.0 ts.addresses m.addresses)
+        (fsep (lastly ts.κs.1.0 ts.links m.links) (fsep (lastly ts.κs.1.1.0 ts.deleters m.deleters) P))) ∷ Γ) G
     last_words t ts m k =
-        fsplit t $ fsplit t $ move t (1 ∷ []) $ feq_l t (λ a. move t (1 ∷ []) $ fsplit t $ fsplit t $ move t (1 ∷ []) $ feq_l t (λ l.
-        move t (1 ∷ []) $ fsplit t $ fsplit t $ move t (1 ∷ []) $ feq_l t (λ d. move t (0 ∷ 2 ∷ 3 ∷ 1 ∷ []) $
+        last_word t ts.κs.0 ts.addresses m.addresses $ move t (1 ∷ []) $ feq_l t (λ a.
+        last_word t ts.κs.1.0 ts.links m.links $ move t (1 ∷ []) $ feq_l t (λ l.
+        last_word t ts.κs.1.1.0 ts.deleters m.deleters $ move t (1 ∷ []) $ feq_l t (λ d. move t (1 ∷ 2 ∷ 3 ∷ []) $
         k (record { addresses = a; links = l; deleters = d }))))
 
     -- at exit: the last words, together with the others
     pub last_together : K → (ts : LentTables) (m : Memory) {P : Fml}
-        → Step K 𝓛 (‵ (fsep (finally u32 ts.addresses.name m.addresses)
-        (fsep (finally u32 ts.links.name m.links) (fsep (finally u32 ts.deleters.name m.deleters) P))) ∷ Γ) G
+        → Step K 𝓛 (‵ (fsep (Lastly ts.κs.0 ts.addresses m.addresses)
+        (fsep (Lastly ts.κs.1.0 ts.links m.links) (fsep (Lastly ts.κs.1.1.0 ts.deleters m.deleters) P))) ∷ Γ) G
         (‵ P ∷ LastWords 𝓤 ts m Γ) G
     last_together t ts m = step (λ s. move t (1 ∷ 0 ∷ []) $ fjoin t $ move t (1 ∷ 0 ∷ []) $ fjoin t $ move t (1 ∷ 0 ∷ []) $ fjoin t $ s)
 
