@@ -1,13 +1,11 @@
 -- The parameters of a walked function: what is had of each at exit, and its machine values; and how a walk of the function's MIR gives its contract.
 -- Rests on the logic's laws of walks, which this file says for all parameters at once.
 use types.Logic.{Logic}
-use denote.Slice.{mut_slice_vals}
-use denote.Ref.{mut_vals}
 use Rattle.walks.proofs.Kit.{◌≡◌, ℕ, [], ◌∷◌, List, Ura, Fn, Callee, Val, SProp, ent, via, fst∗, snd∗, ftrue, Heap, WpFn, Tables, Closed, Model}
 use Rattle.walks.proofs.Kit.{Routine, fact, fact_use, Running, tables, tables_of, WpFn-mono, Lfts, Shares, AllOutlive, Item, Sq}
 use Rattle.walks.proofs.Kit.{runs, params', at_ret, ‵, raw, ◌$◌, ◌∵◌, !, qed, use1, enter, Kept, yes, Last, left, Is, Are, Ises, Spells, valss}
-use Rattle.walks.proofs.Kit.{Tells, Tellss, owns, flat, mut_Tells, Slot, AllWithin, name_of, meet_at, plain, mut_ref_to, mut_slice_of}
-use Rattle.walks.proofs.Kit.{types_at, mut_slice_Tells, Clauses, Ended, Lasts, closing, Kepts, Args, Res, alive, on_entry, Meets}
+use Rattle.walks.proofs.Kit.{Tells, Tellss, owns, flat, mut_vals, mut_Tells, Slot, AllWithin, name_of, meet_at, plain, mut_ref_to, mut_slice_of}
+use Rattle.walks.proofs.Kit.{types_at, mut_slice_vals, mut_slice_Tells, Clauses, Ended, Lasts, closing, Kepts, Args, Res, alive, on_entry, Meets}
 use Rattle.walks.proofs.Kit.{Contract, Triple, entered, cited, Stay, Stays, stay_ref, stay_slice, gave_slice, stay_none, Goes, Goes-ref}
 use Rattle.walks.proofs.Kit.{Goes-slice, Goes-gave_slice, Goes-none, AllGo, Fit, Ending, walk_of, ends_at, walked, walk_Meets, Signature}
 use prog.Routine.{Env}

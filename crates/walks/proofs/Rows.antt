@@ -5,12 +5,10 @@
 --     given_back       a `&mut [T]` that was not touched says its last list, beside its borrow, closed
 --     given_up         the same, and the borrow is let go
 use types.Logic.{Logic}
-use denote.Slice.{mut_slice_at}
-use denote.Ref.{MutBor}
 use Rattle.walks.proofs.Kit.{Soaks, fbor, fobor, fauth, flft, opens_slice, closes_slice, ◌≡◌, sym, ap, subst, ℕ, ◌<◌, [], ◌∷◌, List, length, set}
 use Rattle.walks.proofs.Kit.{get_or, Ura, full_share, Lifetime, Val, Lft, GName, Share, fobs, fres, Item, Goal, Seq, Step}
 use Rattle.walks.proofs.Kit.{step, ‵, ◌$◌, move, drop, use1, fsplit, fjoin, RattleType, Is, shows, cell_at, shares, pure_i, slice_val}
-use Rattle.walks.proofs.Kit.{MutSlice, Room, heres, coded_holeys, finally, res-finally, Held, row, others, elem_out, elem_put, owned}
+use Rattle.walks.proofs.Kit.{MutBor, MutSlice, mut_slice_at, Room, heres, coded_holeys, finally, res-finally, Held, row, others, elem_out, elem_put, owned}
 use denote.Index.{place}
 use Rattle.record.specs.declared.Record.{Record}
 use Rattle.walks.proofs.Record.{record_values, R, vals, size}
@@ -52,6 +50,4 @@ module _ {M : Type 1} {𝓤 : Ura M} {𝓛 : Logic 𝓤} {K : Type 0} {Γ : List
 
   pub given_up : K → (ℓ : Lifetime) (κ : Lft) (T : RattleType) (x : MutBor (List T.Denot)) (vs : List Val)
       → Step K 𝓛 (‵ (finally T x.ghost_name x.now) ∷ Γ) G (‵ ((MutSlice ℓ κ T).own_val x vs) ∷ Γ) G
-  given_up t ℓ κ T x vs = step (λ s. fsplit t $ drop t $ fsplit t $
-      use1 𝓛 (‵ (fres x.ghost_name ((coded_holeys T).code (heres T x.now)))) (𝓛.names.obs-res x.ghost_name ((coded_holeys T).code (heres T x.now))) $
-      use1 𝓛 (‵ (finally T x.ghost_name x.now)) (res-finally 𝓛 ℓ κ T x.ghost_name x.now) $ move t (1 ∷ []) $ drop t $ s)
+  given_up t ℓ κ T x vs = step (λ s. given_back t ℓ κ T x vs $ move t (1 ∷ []) $ drop t $ s)

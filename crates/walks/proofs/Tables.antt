@@ -1,13 +1,11 @@
 -- The lent tables in a walk: as parameters, as what a walk has of them, and the steps that walks over them take, whatever else there is. A walk
 -- names no table by itself: what it knows of their words is a memory. Rests on the logic's steps, on `Rows` for a table that was not touched, and on
 -- `lent_memory`.
-use types.Logic.{Logic, sem}
-use denote.Slice.{mut_slice_vals}
-use denote.Ref.{MutBor}
+use types.Logic.{Logic}
 use Rattle.walks.proofs.Kit.{Slot, AllWithin, plain, mut_slice_of, sep, Fml, fsep, feq, sem, Goal, Seq, Step, step, cut, prop, mean, ℕ, ◌≡◌}
 use Rattle.walks.proofs.Kit.{refl, [], ◌∷◌, List, length, Ura, named, Val, id⊢, emp, Lft, Lfts, Share, Shares, ftrue, flft}
 use Rattle.walks.proofs.Kit.{Item, ‵, ◌⊛◌, ◌$◌, move, split, join, fsplit, fsplit3, fjoin, feq_l, done, nothing, u32, fbor, Held}
-use Rattle.walks.proofs.Kit.{MutSlice, finally, yes}
+use Rattle.walks.proofs.Kit.{MutBor, MutSlice, mut_slice_vals, finally, yes}
 use Rattle.table.specs.Words.{Memory}
 use Rattle.words.specs.declared.Sizes.{Sizes}
 use Rattle.words.specs.LentMemory.{lent_memory}
@@ -80,13 +78,13 @@ Own j κ x = (MutSlice (named j) κ u32).own_val x (mut_slice_vals x)
 abbrev Borrowed : Lft → MutBor (List ℕ) → Fml
 Borrowed κ x = fbor κ (Held u32 (length x.now) x.ref_ptr.0 x.ref_ptr.1 x.ghost_name)
 
--- what a callee says of a table that was passed on to it, and hands back
+-- what a callee says of a table that was passed on to it, and the borrow that it gives back
 abbrev lastly : Lft → MutBor (List ℕ) → List ℕ → Fml
 lastly κ x ws = fsep (fsep (finally u32 x.ghost_name ws) (feq ℕ (length ws) (length x.now))) (Borrowed κ x)
 
--- the same as a function's last word of a table, whose length is said apart
-abbrev Lastly : Lft → MutBor (List ℕ) → List ℕ → Fml
-Lastly κ x ws = fsep (finally u32 x.ghost_name ws) (Borrowed κ x)
+-- what a function has of such a table at exit: what says its last words, and its borrow. That there are as many of them is shown apart
+abbrev handed_back : Lft → MutBor (List ℕ) → List ℕ → Fml
+handed_back κ x ws = fsep (finally u32 x.ghost_name ws) (Borrowed κ x)
 
 module _ {M : Type 1} (𝓤 : Ura M) (ts : LentTables) where
   -- their lifetimes, then others
@@ -110,8 +108,8 @@ module _ {M : Type 1} (𝓤 : Ura M) (ts : LentTables) where
   -- before Γ: the last words of the deleters, the links and the addresses, each with its table's borrow
   abbrev LastWords : Memory → List (Item 𝓤) → List (Item 𝓤)
   LastWords m Γ =
-      ‵ (Lastly ts.κs.1.1.0 ts.deleters m.deleters) ∷ ‵ (Lastly ts.κs.1.0 ts.links m.links)
-      ∷ ‵ (Lastly ts.κs.0 ts.addresses m.addresses) ∷ Γ
+      ‵ (handed_back ts.κs.1.1.0 ts.deleters m.deleters) ∷ ‵ (handed_back ts.κs.1.0 ts.links m.links)
+      ∷ ‵ (handed_back ts.κs.0 ts.addresses m.addresses) ∷ Γ
 
   -- before Γ: the lifetimes, then the last words
   abbrev pub Last : Memory → List (Item 𝓤) → List (Item 𝓤)
@@ -128,9 +126,9 @@ module _ {M : Type 1} {𝓤 : Ura M} {𝓛 : Logic 𝓤} {K : Type 0} where
     tokens_together {X} = cut (Lifetimes 𝓤 ts (X ∷ [])) (Tokens 𝓤 ts X ∷ []) Γ (id⊢ 𝓤 _)
 
   module _ {Γ : List (Item 𝓤)} {G : Goal 𝓤 H} where
-    -- of what a callee says of the first table: what is said of its length, what is said of the others, and its last words
+    -- what a callee says of the first table, taken apart: what is said of the others, how many words there are, and the last words
     last_word : K → (κ : Lft) (x : MutBor (List ℕ)) (ws : List ℕ) {P : Fml}
-        → Step K 𝓛 (‵ P ∷ ‵ (feq ℕ (length ws) (length x.now)) ∷ ‵ (Lastly κ x ws) ∷ Γ) G (‵ (fsep (lastly κ x ws) P) ∷ Γ) G
+        → Step K 𝓛 (‵ P ∷ ‵ (feq ℕ (length ws) (length x.now)) ∷ ‵ (handed_back κ x ws) ∷ Γ) G (‵ (fsep (lastly κ x ws) P) ∷ Γ) G
     last_word t κ x ws = step (λ s. fsplit t $ fsplit t $ fsplit t $ move t (0 ∷ 2 ∷ []) $ fjoin t $ move t (2 ∷ 1 ∷ []) $ s)
 
   module _ {Γ : List (Item 𝓤)} {G : Goal 𝓤 H} where
@@ -169,8 +167,8 @@ module _ {M : Type 1} {𝓤 : Ura M} {𝓛 : Logic 𝓤} {K : Type 0} where
 
     -- at exit: the last words, together with the others
     pub last_together : K → (ts : LentTables) (m : Memory) {P : Fml}
-        → Step K 𝓛 (‵ (fsep (Lastly ts.κs.0 ts.addresses m.addresses)
-        (fsep (Lastly ts.κs.1.0 ts.links m.links) (fsep (Lastly ts.κs.1.1.0 ts.deleters m.deleters) P))) ∷ Γ) G
+        → Step K 𝓛 (‵ (fsep (handed_back ts.κs.0 ts.addresses m.addresses)
+        (fsep (handed_back ts.κs.1.0 ts.links m.links) (fsep (handed_back ts.κs.1.1.0 ts.deleters m.deleters) P))) ∷ Γ) G
         (‵ P ∷ LastWords 𝓤 ts m Γ) G
     last_together t ts m = step (λ s. move t (1 ∷ 0 ∷ []) $ fjoin t $ move t (1 ∷ 0 ∷ []) $ fjoin t $ move t (1 ∷ 0 ∷ []) $ fjoin t $ s)
 

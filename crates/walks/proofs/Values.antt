@@ -7,7 +7,7 @@ use denote.Struct.Declared as struct_type
 use denote.Struct.Laws as struct
 use denote.Enum.Declared as enum_type
 use denote.Enum.Laws as enum
-use types.Logic.{Logic, sem}
+use types.Logic.{Logic}
 
 -- a type as the logic has it, the machine value of each of its values, which the type tells and makes, and the MIR type that this value has
 pub record ByValue : Type 2 where
