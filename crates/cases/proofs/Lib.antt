@@ -1,2 +1,4 @@
 pub mod LentPart
 pub mod Pieces
+pub mod RecordArray
+pub mod ActsInRow
