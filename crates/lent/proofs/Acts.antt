@@ -1,5 +1,5 @@
--- The call of `hand_back`, as one rule: whoever has the lent tables calls it with a record, and has what it promises. Every walk that calls
--- `hand_back` cites it, whatever else its context holds. All that it knows of `hand_back` is that it meets its contract. Rests on the walks' kit.
+-- The call of `hand_back`, as one rule: whoever has the lent tables calls it with a record, and has what it promises. A walk that calls
+-- `hand_back` can cite it, whatever else its context holds; no proof needs one today. All that it knows of `hand_back` is that it meets its contract. Rests on the walks' kit.
 use Rattle.walks.proofs.Kit.{◌≡◌, [], ◌∷◌, List, Ura, Opd, Place, Body, seq, call, SProp, ent, id⊢, Memory, Routine, Calls, Loops, Env}
 use Rattle.walks.proofs.Kit.{Fun, Item, Sq, Post, Go, runs, lands, Opds, raw, ⋆, ◌$◌, ◌∵◌, !, qed, move, drop, FmC, Is, nothing}
 use Rattle.walks.proofs.Kit.{Contract, Triple}
