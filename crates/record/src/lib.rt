@@ -1,4 +1,4 @@
-// The three sorts of number, the process record and its methods by value, actions, events and outcomes: what 01 stores and hands about.
+// The three sorts of number, the process record and its methods by value, actions, events, outcomes and refusals: what 01 stores and hands about.
 // Rests on the basics.
 #![tactic(auto)]
 
@@ -7,15 +7,15 @@ ghost use Rattle.record.specs.Record.{lost_at, lost_part, record_of, ◌▸◌, 
 ghost use Rattle.record.specs.Record.{fresh_record, requested, went_down, restarted, head_node, idle_status, false_answer, true_answer, fail_answer};
 
 // A node of the table: head is 0, tail 1.
-#[derive(Clone, Copy)]
+#[derive(Clone, Copy, Debug, PartialEq, Eq)]
 pub struct Node(pub u32);
 
 // A process, numbered from 0.
-#[derive(Clone, Copy)]
+#[derive(Clone, Copy, Debug, PartialEq, Eq)]
 pub struct Process(pub u32);
 
 // A claimed address: any 32-bit number.
-#[derive(Clone, Copy)]
+#[derive(Clone, Copy, Debug, PartialEq, Eq)]
 pub struct Address(pub u32);
 
 pub const HEAD: Node = Node(0);
@@ -100,6 +100,41 @@ pub enum Outcome {
     Answered(u8),
 }
 
+// Why an event, a file or a write is refused: 01's refusals in their order, 1 to 9.
+#[derive(Clone, Copy, Debug, PartialEq, Eq)]
+pub enum Refusal {
+    NoSuchProcess,
+    WrongStatus,
+    NoNodeLeft,
+    CutShort,
+    BadEvent,
+    BadNumber,
+    BadSizes,
+    Broken,
+    NoRoom,
+}
+
+// A refusal's number.
+impl From<Refusal> for u8 {
+    ghost use Rattle.record.specs.Refusal.{number_of};
+
+    ghost from_gives = { λ refusal number. number ≡ number_of refusal };
+
+    fn from(refusal: Refusal) -> u8 {
+        match refusal {
+            Refusal::NoSuchProcess => 1,
+            Refusal::WrongStatus => 2,
+            Refusal::NoNodeLeft => 3,
+            Refusal::CutShort => 4,
+            Refusal::BadEvent => 5,
+            Refusal::BadNumber => 6,
+            Refusal::BadSizes => 7,
+            Refusal::Broken => 8,
+            Refusal::NoRoom => 9,
+        }
+    }
+}
+
 // A lost part of zeros but for its place.
 fn lost_at(place: u8) -> Lost
     ensures { result ≡ lost_at place }
@@ -114,14 +149,11 @@ fn lost_at(place: u8) -> Lost
     }
 }
 
-// The one node or the other.
-pub fn either(first: bool, one: Node, other: Node) -> Node
+// The one value or the other.
+pub fn either<T: Drop>(first: bool, one: T, other: T) -> T
     ensures { result ≡ cond first one other }
 {
-    if first {
-        return one;
-    }
-    other
+    if first { one } else { other }
 }
 
 impl Record {
