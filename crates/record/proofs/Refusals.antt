@@ -1,5 +1,6 @@
 -- Two refusals of one number are the same. Rests on the numbers of the refusals.
-use Rattle.std.specs.Prelude.{◌≡◌, refl, ℕ, cond, eqb}
+use mathlib.Core.Path.{◌≡◌, refl, ap, sym, ◌∙◌}
+use Rattle.std.specs.Prelude.{ℕ, cond, eqb}
 use Rattle.record.specs.declared.Refusal.{Refusal}
 use Rattle.record.specs.declared.Refusal.TheVariants.{NoSuchProcess, WrongStatus, NoNodeLeft, CutShort, BadEvent, BadNumber, BadSizes, Broken, NoRoom}
 use Rattle.record.specs.Refusal.{number_of}
@@ -22,4 +23,4 @@ numbered_back Broken = refl
 numbered_back NoRoom = refl
 
 pub same_number : (a b : Refusal) → number_of a ≡ number_of b → a ≡ b
-same_number a b same = rw← (numbered_back a) in rw← (numbered_back b) in rw same in refl
+same_number a b same = sym (numbered_back a) ∙ ap numbered same ∙ numbered_back b
