@@ -12,6 +12,7 @@ numbered n =
     (cond (eqb n 5) BadEvent (cond (eqb n 6) BadNumber (cond (eqb n 7) BadSizes (cond (eqb n 8) Broken NoRoom)))))))
 
 numbered_back : (r : Refusal) → numbered (number_of r) ≡ r
+unfolding numbered
 numbered_back NoSuchProcess = refl
 numbered_back WrongStatus = refl
 numbered_back NoNodeLeft = refl
