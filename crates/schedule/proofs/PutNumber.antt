@@ -46,17 +46,26 @@ module _ (bytes found out : List ℕ) (rest at : ℕ) (here : at < length out) (
         fits = omega (arith, p.same_length);
       }
 
-  pub last_put : rest < 128 → (set out at rest ≡ fitted bytes found) × (at + 1 ≡ min (length bytes) (length found))
-  last_put h =
-      let next = next_byte rest [] (number_last rest h) in
-      let whole : at + 1 ≡ length bytes = omega (arith, ap length next.1, length-drop (at + 1) bytes, p.inside) in
-      let fits : length bytes ≤ length found = omega (arith, p.same_length) in
-      (stands rest next.0 ∙ rw (whole, take-length) (sym (fitted_whole bytes found fits)), omega arith)
+  module _ (last : rest < 128) where
+    last_byte : (get_or bytes at 0 ≡ rest) × (drop (at + 1) bytes ≡ [])
+    last_byte = next_byte rest [] (number_last rest last)
+
+    whole : at + 1 ≡ length bytes
+    whole = omega (arith, ap length last_byte.1, length-drop (at + 1) bytes, p.inside)
+
+    pub last_put : set out at rest ≡ fitted bytes found
+    last_put =
+        stands rest last_byte.0 ∙ rw (whole, take-length) (sym (fitted_whole bytes found (omega (arith, p.same_length, whole))))
+
+    pub last_count : at + 1 ≡ min (length bytes) (length found)
+    last_count = omega (arith, p.same_length, whole)
 
 -- the end of what was lent, before the end of the number
 pub full_put : (bytes found out : List ℕ) (rest at : ℕ) → length out ≤ at → Putting bytes found out rest at
-    → (out ≡ fitted bytes found) × (at ≡ min (length bytes) (length found))
+    → (out ≡ fitted bytes found) × (length out ≡ min (length bytes) (length found))
 full_put bytes found out rest at full p =
     let all : at ≡ length found = omega (arith, p.same_length, p.fits) in
     let part : length found ≤ length bytes = omega (arith, p.inside) in
-    (p.so_far ∙ rw (drop_of_length-le found {i = at} (omega arith), append-nil, all) (sym (fitted_full bytes found part)), omega arith)
+    (p.so_far ∙ rw (drop_of_length-le found {i = at} (omega arith), append-nil, all) (sym (fitted_full bytes found part)), omega (arith, p.same_length))
+
+pub ruleset putting = (none_put, last_put, last_count, full_put)
