@@ -5,11 +5,11 @@ ghost use Rattle.std.specs.Prelude.{◌≡◌, ℕ, ◌≤◌, length};
 ghost use Rattle.basics.specs.Over.{over};
 ghost use Rattle.table.specs.Words.{fresh_memory};
 ghost use Rattle.table.specs.Events.{state_of};
-ghost use Rattle.words.specs.LentMemory.{lent_memory};
+ghost use Rattle.words.specs.LentMemory.{memory_of, SameTables};
 ghost use Rattle.fresh.specs.Fresh.{fresh_sizes, fresh_tables, tables_left, fresh_list, list_left};
 
 use record::{Record, Refusal, TAIL};
-use words::Sizes;
+use words::{Sizes, Tables};
 
 // Zeros, then head's link and tail's, both to tail.
 #[tactic(auto, using(crate::proofs::Freshness::links_laid))]
@@ -24,21 +24,19 @@ fn fresh_links(links: &mut [u32], nodes: usize)
 
 // The lent tables made fresh for these sizes, or refused and left as they are.
 #[tactic(auto, using(crate::proofs::Freshness::tables_told))]
-pub fn fresh_tables(
-    addresses: &mut [u32],
-    links: &mut [u32],
-    deleters: &mut [u32],
-    nodes: u32,
-    processes: u32,
-) -> Result<Sizes, Refusal>
-    ensures { tables_left (lent_memory addresses.new links.new deleters.new (fresh_sizes nodes processes)) result ≡
-        fresh_tables (lent_memory addresses.old links.old deleters.old (fresh_sizes nodes processes)) }
+pub fn fresh_tables(tables: &mut Tables, nodes: u32, processes: u32) -> Result<Sizes, Refusal>
+    ensures same { SameTables tables.old tables.new }
+    ensures left { tables_left (memory_of tables.new (fresh_sizes nodes processes)) result ≡
+        fresh_tables (memory_of tables.old (fresh_sizes nodes processes)) }
 {
     let sizes = Sizes {
         nodes,
         processes,
         count: 2,
     };
+    let addresses = &mut *tables.addresses;
+    let links = &mut *tables.links;
+    let deleters = &mut *tables.deleters;
     if words::tables_fit(addresses, links, deleters, sizes) {
         let stated = nodes as usize;
         addresses[..stated].fill(0);
@@ -52,23 +50,22 @@ pub fn fresh_tables(
 // The lent tables and the lent row made fresh for these sizes, or refused and left as they are.
 #[tactic(auto, using(crate::proofs::Freshness::row_refused))]
 pub fn fresh_list(
-    addresses: &mut [u32],
-    links: &mut [u32],
-    deleters: &mut [u32],
+    tables: &mut Tables,
     row: &mut [Record],
     nodes: u32,
     processes: u32,
 ) -> Result<Sizes, Refusal>
-    ensures { list_left (state_of (lent_memory addresses.new links.new deleters.new (fresh_sizes nodes processes))
+    ensures same { SameTables tables.old tables.new }
+    ensures left { list_left (state_of (memory_of tables.new (fresh_sizes nodes processes))
         row.new) result ≡
-        fresh_list (state_of (lent_memory addresses.old links.old deleters.old (fresh_sizes nodes processes))
+        fresh_list (state_of (memory_of tables.old (fresh_sizes nodes processes))
         row.old) }
 {
     let stated = processes as usize;
     if row.len() < stated {
         return Err(Refusal::BadSizes);
     }
-    let sizes = fresh_tables(addresses, links, deleters, nodes, processes)?;
+    let sizes = fresh_tables(tables, nodes, processes)?;
     row[..stated].fill(Record::fresh());
     Ok(sizes)
 }

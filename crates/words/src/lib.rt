@@ -11,6 +11,14 @@ ghost use Rattle.words.specs.LentWords.{slot_of, compared_of, link_met, swap_lef
 
 use record::{Address, FAIL, FINDS, HEAD, NO_ANSWER, NO_NODE, Node, Process, Record, TAIL};
 
+// The lent tables: a word for each node in each.
+#[derive(Drop)]
+pub struct Tables<'a> {
+    pub addresses: &'a mut [u32],
+    pub links: &'a mut [u32],
+    pub deleters: &'a mut [u32],
+}
+
 // The stated sizes, and the count of nodes given out.
 #[derive(Clone, Copy)]
 pub struct Sizes {
