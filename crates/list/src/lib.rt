@@ -16,7 +16,7 @@ mod recovery;
 mod search;
 mod step;
 
-use record::{Action, Outcome, Process, Record};
+use record::{Action, Outcome, Process, Record, Refusal};
 use words::{Sizes, Tables};
 
 // What an event leaves of the record and of the sizes, and its outcome.
@@ -43,16 +43,14 @@ pub fn act(
     let addresses = &mut *tables.addresses;
     let links = &mut *tables.links;
     let deleters = &mut *tables.deleters;
-    let fits = words::tables_fit(addresses, links, deleters, sizes);
-    if !fits {
-        return answers::refused(sizes, record, 7);
+    if !words::tables_fit(addresses, links, deleters, sizes) {
+        return answers::refused(sizes, record, Refusal::BadSizes);
     }
     if sizes.processes <= process.0 {
-        return answers::refused(sizes, record, 1);
+        return answers::refused(sizes, record, Refusal::NoSuchProcess);
     }
-    let needed = event::status_needed(action);
-    if record.kept.status != needed {
-        return answers::refused(sizes, record, 2);
+    if record.kept.status != event::status_needed(action) {
+        return answers::refused(sizes, record, Refusal::WrongStatus);
     }
     event::does(addresses, links, deleters, sizes, process, record, action)
 }
