@@ -9,7 +9,6 @@ use Rattle.std.specs.Prelude.{Option, Some, None, Result, Ok, Err}
 use Rattle.record.specs.Event.{kind_of}
 use Rattle.record.specs.declared.Event.{Event}
 use Rattle.record.specs.declared.Refusal.{Refusal}
-use Rattle.record.specs.Refusal.{number_of}
 use Rattle.record.proofs.Refusals.{same_number}
 use Rattle.table.specs.Events.{sizes_fit}
 use Rattle.basics.proofs.Tests.{if}

@@ -1,25 +1,21 @@
 -- What the reader's definitions give by what its calls answered: one law for each way out of its functions. Rests on the numbers' ReadAt.
 use Prim.Native.Nat.{ℕ, ◌-◌, ◌<◌, ◌≤◌}
-use mathlib.Core.Bool.{Bool, true, false, cond, ◌&&◌}
-use mathlib.Core.List.{List, []}
-use mathlib.Core.Path.{◌≡◌, refl, ◌∙◌}
+use mathlib.Core.Bool.{Bool, true, false}
+use mathlib.Core.List.{List}
+use mathlib.Core.Path.{◌≡◌}
 use native.Mathlib.Omega.{arith}
 use borrow.Author.Tests.{lt-ltb, le-ltb, le-leb, lt-leb}
-use lib.Dec.{leb}
-use lib.ListN.{length, drop, drop_of_length-le}
+use lib.ListN.{length, drop_of_length-le}
 use lib.Seq.{drop-cons}
 use Rattle.record.specs.Record.{process, address}
 use Rattle.record.specs.declared.Process.{Process}
 use Rattle.record.specs.Event.{event_of}
-use Rattle.record.specs.declared.Action.{Action}
 use Rattle.record.specs.declared.Action.TheVariants.{Step}
-use Rattle.record.specs.declared.Event.{Event}
 use Rattle.table.specs.Events.{sizes_fit}
-use Rattle.numbers.specs.Numbers.{got, stops, ◌then◌}
+use Rattle.numbers.specs.Numbers.{◌then◌}
 use Rattle.numbers.specs.ReadAt as number
 use Rattle.numbers.specs.ReadAt.{number_at}
 use Rattle.numbers.proofs.ReadAt.{place_of_drop, got_number, refused_number, number_inside}
-use Rattle.schedule.specs.declared.Header.{Header}
 use Rattle.schedule.specs.declared.Cursor.{Cursor}
 use Rattle.schedule.specs.HeaderRead as header
 use Rattle.schedule.specs.EventRead.{EventRead}
@@ -61,13 +57,11 @@ module _ (file : List ℕ) (c : Cursor) where
               e,
             )
 
-        pub header_within : fit ≡ true → (after : Cursor) → after ≡ cursor_at next
-            → header.Got (record { nodes = nodes; processes = processes }) after ≡ header_at file c
+        pub header_within : fit ≡ true → header_at file c ≡ header.Got (record { nodes = nodes; processes = processes }) (cursor_at next)
         unfolding header_at read_header ◌then◌
-        header_within e after is-after =
+        header_within e =
             let g = got_number file at processes next second in
             rw (
-              is-after,
               le-ltb 65536 (length file) short,
               (got_number file c.at nodes at first).reads,
               g.reads,
@@ -88,12 +82,11 @@ module _ (file : List ℕ) (p : Process) (at : ℕ) where
     unfolding burst_at read_burst ◌then◌
     burst_above some h = rw ((got_number file at count next is).reads, le-leb 1 count some, lt-leb count 255 h)
 
-    pub burst_counted : 1 ≤ count → count ≤ 255 → (e : Event) → e ≡ event_of p Step → (after : Cursor) → after ≡ cursor_in next p (count - 1)
-        → event.Got e after ≡ burst_at file p at
+    pub burst_counted : 1 ≤ count → count ≤ 255 → burst_at file p at ≡ event.Got (event_of p Step) (cursor_in next p (count - 1))
     unfolding burst_at read_burst ◌then◌
-    burst_counted some few e is-step after is-after =
+    burst_counted some few =
         let g = got_number file at count next is in
-        rw (is-step, is-after, g.reads, le-leb 1 count some, le-leb count 255 few, place_of_drop file next g.inside)
+        rw (g.reads, le-leb 1 count some, le-leb count 255 few, place_of_drop file next g.inside)
 
   pub burst_refused : (n : ℕ) → number.Refused n ≡ number_at file at → event.Refused n ≡ burst_at file p at
   unfolding burst_at read_burst ◌then◌
@@ -105,17 +98,15 @@ module _ (file : List ℕ) (p : Process) (at : ℕ) where
     rest_refused h n e = rw (le-leb kind 2 h, refused_number file at n e)
 
     pub rest_request : kind ≤ 2 → (a next : ℕ) → number.Got a next ≡ number_at file at
-        → (e : Event) → e ≡ event_of p (request_of_kind kind (address a)) → (after : Cursor) → after ≡ cursor_at next
-        → event.Got e after ≡ rest_at file kind p at
+        → rest_at file kind p at ≡ event.Got (event_of p (request_of_kind kind (address a))) (cursor_at next)
     unfolding rest_at read_rest ◌then◌
-    rest_request h a next is e is-request after is-after =
-        let g = got_number file at a next is in rw (is-request, is-after, le-leb kind 2 h, g.reads, place_of_drop file next g.inside)
+    rest_request h a next is =
+        let g = got_number file at a next is in rw (le-leb kind 2 h, g.reads, place_of_drop file next g.inside)
 
-    pub rest_move : 2 < kind → kind ≤ 5 → at ≤ length file → (e : Event) → e ≡ event_of p (move_of_kind kind)
-        → (after : Cursor) → after ≡ cursor_at at → event.Got e after ≡ rest_at file kind p at
+    pub rest_move : 2 < kind → kind ≤ 5 → at ≤ length file
+        → rest_at file kind p at ≡ event.Got (event_of p (move_of_kind kind)) (cursor_at at)
     unfolding rest_at read_rest
-    rest_move h k inside e is after is-after =
-        rw (is, is-after, lt-leb kind 2 h, le-leb kind 5 k, place_of_drop file at inside)
+    rest_move h k inside = rw (lt-leb kind 2 h, le-leb kind 5 k, place_of_drop file at inside)
 
   pub rest_burst : (r : EventRead) → r ≡ burst_at file p at → r ≡ rest_at file 6 p at
   unfolding burst_at rest_at read_rest
@@ -157,10 +148,9 @@ module _ (file : List ℕ) (at : ℕ) where
           rw ((got_number file at kind next first).reads, le-ltb 6 kind below, (got_number file next p after second).reads, ← is) is-rest
 
 module _ (file : List ℕ) (c : Cursor) where
-  pub burst_goes_on : 0 < c.left → (e : Event) → e ≡ event_of c.process Step
-      → (after : Cursor) → after ≡ cursor_in c.at c.process (c.left - 1) → event.Got e after ≡ event_at file c
+  pub burst_goes_on : 0 < c.left → event_at file c ≡ event.Got (event_of c.process Step) (cursor_in c.at c.process (c.left - 1))
   unfolding event_at
-  burst_goes_on h e is after is-after = rw (is, is-after, lt-ltb 0 c.left h)
+  burst_goes_on h = rw (lt-ltb 0 c.left h)
 
   module _ (none : c.left ≤ 0) where
     pub file_ends : length file ≤ c.at → event.End ≡ event_at file c

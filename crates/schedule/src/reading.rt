@@ -62,7 +62,7 @@ fn read_burst(bytes: &[u8], process: Process, at: usize) -> Result<(Event, Curso
     ensures { item_told result ≡ burst_at bytes.now process at }
 {
     let (count, next) = read_number(bytes, at)?;
-    if count < 1 || 255 < count {
+    if !(1..=255).contains(&count) {
         return Err(Refusal::BadEvent);
     }
     Ok(step_of_burst(process, count, next))

@@ -29,7 +29,7 @@ fn number_size(number: u32) -> usize
         if rest < 128 {
             return size;
         }
-        rest = rest / 128;
+        rest /= 128;
     }
     5
 }
@@ -80,7 +80,7 @@ fn put_number(out: &mut [u8], number: u32) -> usize
             return at + 1;
         }
         *slot = (128 + rest % 128) as u8;
-        rest = rest / 128;
+        rest /= 128;
     }
     out.len()
 }
