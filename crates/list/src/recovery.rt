@@ -8,8 +8,8 @@ ghost use Rattle.table.specs.Places.{row, place_of};
 ghost use Rattle.words.specs.LentMemory.{lent_memory};
 ghost use Rattle.list.specs.Rows.{row_left, row_made, acted_as};
 
-use crate::{Acted, access};
 use crate::access::Field;
+use crate::{Acted, access};
 use record::{DELETES, FAIL, INSERTS, NO_ANSWER, NO_NODE, Outcome, Process, Record};
 use words::Sizes;
 
