@@ -1,4 +1,4 @@
--- The kinds of an event and their numbers. Rests on the declared types alone.
+-- The kinds of what stands in a file after its header, and their numbers. Rests on the declared types alone.
 use Rattle.std.specs.Prelude.{◌≡◌, ℕ, ◌≤◌, ◌<◌, Result, MatchResult}
 use Rattle.record.specs.declared.Refusal.{Refusal}
 use Rattle.record.specs.declared.Refusal.TheVariants.{BadEvent}
