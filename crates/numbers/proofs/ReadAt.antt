@@ -24,11 +24,11 @@ by_read file at n next (got m left) f e is =
     let place : place_in file left ≡ next = cc in
     let left_is : left ≡ drop next file = sym (left_follows file at left f) ∙ ap (λ (k : ℕ). drop k file) place in
     record { reads = e ∙ (λ i. got (value i) (left_is i)); inside = omega arith }
-by_read file at n next (stops m) f e is = let z : ◌≡◌ {A = ℕ} 0 1 = cc in absurd (omega arith)
+by_read file at n next (stops m) f e is = cc
 
 by_stop : (file : List ℕ) (at n : ℕ) (r : Read ℕ) → read_number (drop at file) ≡ r
     → number_read (place_in file) r ≡ Refused n → read_number (drop at file) ≡ stops n
-by_stop file at n (got m left) e is = let z : ◌≡◌ {A = ℕ} 0 1 = cc in absurd (omega arith)
+by_stop file at n (got m left) e is = cc
 by_stop file at n (stops m) e is = cc
 
 -- of what `read_number` answers there

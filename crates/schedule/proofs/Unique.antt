@@ -27,32 +27,23 @@ use Rattle.schedule.specs.Writing.{Wrote, room, put_at, answered, written_header
 pub start_unique : (r s : Cursor) → r ≡ start → s ≡ start → r ≡ s
 start_unique r s e f = answer_unique e f
 
--- what header_told and event_told tell apart
-got_no_refusal : {X : Type 0} → ◌≡◌ {A = ℕ} 0 1 → X
-got_no_refusal e = absurd (omega arith)
-
+-- no two answers tell the same
 pub same_header_told : (r s : Result (Header × Cursor) Refusal) → header_told r ≡ header_told s → r ≡ s
-same_header_told (Ok x) (Ok y) e =
-    let first : x.0 ≡ y.0 = cc in
-    let after : x.1 ≡ y.1 = cc in
-    λ i. Ok (first i, after i)
+same_header_told (Ok (h, after)) (Ok (h', after')) e = cc
 same_header_told (Err a) (Err b) e = ap Err (same_number a b cc)
-same_header_told (Ok x) (Err b) e = got_no_refusal cc
-same_header_told (Err a) (Ok y) e = got_no_refusal cc
+same_header_told (Ok x) (Err b) e = cc
+same_header_told (Err a) (Ok y) e = cc
 
 pub same_event_told : (r s : Result (Option (Event × Cursor)) Refusal) → event_told r ≡ event_told s → r ≡ s
-same_event_told (Ok (Some x)) (Ok (Some y)) e =
-    let first : x.0 ≡ y.0 = cc in
-    let after : x.1 ≡ y.1 = cc in
-    λ i. Ok (Some (first i, after i))
+same_event_told (Ok (Some (x, after))) (Ok (Some (y, after'))) e = cc
 same_event_told (Ok None) (Ok None) e = refl
 same_event_told (Err a) (Err b) e = ap Err (same_number a b cc)
-same_event_told (Ok (Some x)) (Ok None) e = got_no_refusal cc
-same_event_told (Ok None) (Ok (Some y)) e = got_no_refusal cc
-same_event_told (Ok (Some x)) (Err b) e = got_no_refusal cc
-same_event_told (Err a) (Ok (Some y)) e = got_no_refusal cc
-same_event_told (Ok None) (Err b) e = got_no_refusal cc
-same_event_told (Err a) (Ok None) e = got_no_refusal cc
+same_event_told (Ok (Some x)) (Ok None) e = cc
+same_event_told (Ok None) (Ok (Some y)) e = cc
+same_event_told (Ok (Some x)) (Err b) e = cc
+same_event_told (Err a) (Ok (Some y)) e = cc
+same_event_told (Ok None) (Err b) e = cc
+same_event_told (Err a) (Ok None) e = cc
 
 pub read_header_unique : (bytes : List ℕ) (cursor : Cursor) (r s : Result (Header × Cursor) Refusal) → header_told r ≡ header_at bytes cursor
     → header_told s ≡ header_at bytes cursor

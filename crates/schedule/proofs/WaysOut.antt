@@ -3,7 +3,6 @@ use Prim.Native.Nat.{ℕ, ◌-◌, ◌<◌, ◌≤◌}
 use mathlib.Core.Bool.{Bool, true, false}
 use mathlib.Core.List.{List}
 use mathlib.Core.Path.{◌≡◌}
-use native.Mathlib.Omega.{arith}
 use borrow.Author.Tests.{lt-ltb, le-ltb, le-leb, lt-leb}
 use lib.ListN.{length, drop_of_length-le}
 use lib.Seq.{drop-cons}
@@ -23,7 +22,6 @@ use Rattle.schedule.specs.EventRead as event
 use Rattle.schedule.specs.Reading.{read_header, request_of_kind, move_of_kind, read_burst, read_rest, read_item, next_item}
 use Rattle.schedule.specs.Cursors.{cursor_in, cursor_at, header_at, event_at}
 use Rattle.schedule.specs.declared.kind.Kind.{Kind}
-use Rattle.schedule.specs.declared.kind.Kind.TheVariants as kind_is
 use Rattle.schedule.specs.Inside.Kinds.{number_of_kind}
 use Rattle.schedule.specs.Inside.Continuing.{burst_at, rest_at, item_at}
 
@@ -114,15 +112,6 @@ module _ (file : List ℕ) (p : Process) (at : ℕ) where
 
 -- ---- an event
 
-pub kind_below : (k : Kind) → number_of_kind k ≤ 6
-kind_below kind_is.Insert = omega arith
-kind_below kind_is.Delete = omega arith
-kind_below kind_is.Find = omega arith
-kind_below kind_is.Step = omega arith
-kind_below kind_is.Stop = omega arith
-kind_below kind_is.Restart = omega arith
-kind_below kind_is.Burst = omega arith
-
 module _ (file : List ℕ) (at : ℕ) where
   pub kind_refused : (n : ℕ) → number.Refused n ≡ number_at file at → event.Refused n ≡ item_at file at
   unfolding item_at read_item ◌then◌
@@ -133,19 +122,16 @@ module _ (file : List ℕ) (at : ℕ) where
     unfolding item_at read_item ◌then◌
     kind_above h = rw ((got_number file at kind next first).reads, lt-ltb 6 kind h)
 
-    module _ (k : Kind) (is : number_of_kind k ≡ kind) where
-      below : kind ≤ 6
-      below = omega (arith, kind_below k)
-
+    module _ (k : Kind) (is : (number_of_kind k ≡ kind) × (kind ≤ 6)) where
       pub process_refused : (n : ℕ) → number.Refused n ≡ number_at file next → event.Refused n ≡ item_at file at
       unfolding item_at read_item ◌then◌
-      process_refused n e = rw ((got_number file at kind next first).reads, le-ltb 6 kind below, refused_number file next n e)
+      process_refused n e = rw ((got_number file at kind next first).reads, le-ltb 6 kind is.1, refused_number file next n e)
 
       pub process_read : (p after : ℕ) → number.Got p after ≡ number_at file next → (r : EventRead)
           → r ≡ rest_at file (number_of_kind k) (process p) after → r ≡ item_at file at
       unfolding item_at read_item rest_at ◌then◌
       process_read p after second r is-rest =
-          rw ((got_number file at kind next first).reads, le-ltb 6 kind below, (got_number file next p after second).reads, ← is) is-rest
+          rw ((got_number file at kind next first).reads, le-ltb 6 kind is.1, (got_number file next p after second).reads, ← is.0) is-rest
 
 module _ (file : List ℕ) (c : Cursor) where
   pub burst_goes_on : 0 < c.left → event_at file c ≡ event.Got (event_of c.process Step) (cursor_in c.at c.process (c.left - 1))

@@ -1,4 +1,4 @@
--- Reading by a cursor: the header, and one event after another, a burst handed out as its steps. Rests on Reading.
+-- Reading by a cursor: the header, and one event after another, a burst handed out as its steps. Rests on Reading, HeaderRead and EventRead.
 use Rattle.std.specs.Prelude.{cond, List, [], ℕ, ◌-◌, ltb, length, drop}
 use Rattle.record.specs.Record.{process}
 use Rattle.record.specs.declared.Process.{Process}

@@ -1,4 +1,4 @@
--- 01, "The writer": what it leaves of the output, with refusals 7 and 9. Rests on Encoding.
+-- 01, "The writer": what it leaves of the output, with refusals 7 and 9. Rests on Encoding and on the refusals' numbers.
 use Rattle.std.specs.Prelude.{cond, List, ◌++◌, ℕ, ◌+◌, ◌-◌, min, leb, length, take, drop, Result, Ok, Err}
 use Rattle.basics.specs.Over.{over}
 use Rattle.record.specs.declared.Event.{Event}

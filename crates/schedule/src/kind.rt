@@ -1,10 +1,10 @@
-// The kinds of an event, by their numbers in a file.
+// The kinds of what stands in a file after its header, and their numbers.
 ghost use Rattle.std.specs.Prelude.{◌≡◌};
 ghost use Rattle.schedule.specs.Inside.Kinds.{number_of_kind, IsKindOf};
 
 use record::{Action, Refusal};
 
-// What an event does, kinds 0 to 6; of a burst the steps.
+// Kinds 0 to 6: those of the actions, and a burst.
 #[derive(Clone, Copy, Debug, PartialEq, Eq)]
 pub(crate) enum Kind {
     Insert,

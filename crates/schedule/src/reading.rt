@@ -2,6 +2,7 @@
 ghost use Rattle.std.specs.Prelude.{◌≡◌, ◌-◌, ◌≤◌, ◌<◌, length};
 ghost use Rattle.record.specs.Event.{event_of};
 ghost use Rattle.record.specs.declared.Action.TheVariants.{Step};
+ghost use Rattle.schedule.specs.Reading.{request_of_kind};
 ghost use Rattle.schedule.specs.HeaderRead.{header_told};
 ghost use Rattle.schedule.specs.EventRead.{event_told};
 ghost use Rattle.schedule.specs.Cursors.{cursor_in, cursor_at, header_at, event_at};
@@ -28,6 +29,17 @@ pub fn read_header(bytes: &[u8], cursor: Cursor) -> Result<(Header, Cursor), Ref
     }
     let header = Header { nodes, processes };
     Ok((header, Cursor::outside_burst(next)))
+}
+
+// The request of a kind from 0 to 2.
+fn request_of_kind(kind: Kind, claimed: Address) -> Action
+    ensures { result ≡ request_of_kind (number_of_kind kind) claimed }
+{
+    match kind {
+        Kind::Insert => Action::Insert(claimed),
+        Kind::Delete => Action::Delete(claimed),
+        _ => Action::Find(claimed),
+    }
 }
 
 // An event that is no burst, and the cursor after it.
@@ -80,17 +92,10 @@ fn read_rest(
     ensures { item_told result ≡ rest_at bytes.now (number_of_kind kind) process at }
 {
     match kind {
-        Kind::Insert => {
+        Kind::Insert | Kind::Delete | Kind::Find => {
             let (claimed, next) = read_number(bytes, at)?;
-            Ok(single(process, Action::Insert(Address(claimed)), next))
-        }
-        Kind::Delete => {
-            let (claimed, next) = read_number(bytes, at)?;
-            Ok(single(process, Action::Delete(Address(claimed)), next))
-        }
-        Kind::Find => {
-            let (claimed, next) = read_number(bytes, at)?;
-            Ok(single(process, Action::Find(Address(claimed)), next))
+            let action = request_of_kind(kind, Address(claimed));
+            Ok(single(process, action, next))
         }
         Kind::Step => Ok(single(process, Action::Step, at)),
         Kind::Stop => Ok(single(process, Action::Stop, at)),

@@ -1,5 +1,5 @@
--- The kinds of an event and their numbers. Rests on the declared types alone.
-use Rattle.std.specs.Prelude.{◌≡◌, ℕ, ◌<◌, Result, MatchResult}
+-- The kinds of what stands in a file after its header, and their numbers. Rests on the declared types alone.
+use Rattle.std.specs.Prelude.{◌≡◌, ℕ, ◌≤◌, ◌<◌, Result, MatchResult}
 use Rattle.record.specs.declared.Refusal.{Refusal}
 use Rattle.record.specs.declared.Refusal.TheVariants.{BadEvent}
 use Rattle.schedule.specs.declared.kind.Kind.{Kind}
@@ -17,4 +17,4 @@ number_of_kind Burst = 6
 
 -- the kind of a number, or 5: "kind above 6"
 abbrev pub IsKindOf : ℕ → Result Kind Refusal → Type 0
-IsKindOf number r = MatchResult r (λ kind. number_of_kind kind ≡ number) (λ e. (e ≡ BadEvent) × (6 < number))
+IsKindOf number r = MatchResult r (λ kind. (number_of_kind kind ≡ number) × (number ≤ 6)) (λ e. (e ≡ BadEvent) × (6 < number))
