@@ -1,6 +1,6 @@
 -- What `judge` says of the words that were read is what lies ahead. Rests on Walks.
 use Rattle.chain.proofs.Walks.{onward_told}
-use Rattle.chain.proofs.onward.Goals as goal
+use Rattle.chain.proofs.Chain.onward.Goals as goal
 
 pub returns : goal.returns
 returns c =

@@ -1,7 +1,7 @@
 -- The reading starts, goes on and ends as Reading says.
 use Rattle.std.proofs.Common.{arith}
 use Rattle.chain.proofs.Reading.{read_start, read_on_lem, read_full, read_ends}
-use Rattle.chain.proofs.read_chain.Goals as goal
+use Rattle.chain.proofs.Chain.read_into.Goals as goal
 
 pub loop-read-init : goal.loop-read-init
 loop-read-init c = read_start _ _ _ _
