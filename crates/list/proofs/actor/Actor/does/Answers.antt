@@ -1,7 +1,7 @@
 -- Each action by its own promise. Rests on Judged.
 use Rattle.std.proofs.Common.{rules}
 use Rattle.list.proofs.Judged.{inserts, steps}
-use Rattle.list.proofs.event.does.Goals as goal
+use Rattle.list.proofs.actor.Actor.does.Goals as goal
 
 pub returns-in-Insert : goal.returns-in-Insert
 returns-in-Insert c = search (rules, inserts, c.insert.ensures)
