@@ -5,18 +5,18 @@ ghost use Rattle.record.specs.declared.Outcome.TheVariants.{Answered};
 ghost use Rattle.table.specs.Words.{Memory, links≔, deleters≔};
 ghost use Rattle.table.specs.Places.{row, place_of};
 ghost use Rattle.words.specs.LentMemory.{lent_memory};
-ghost use Rattle.list.specs.Rows.{row_left, row_made, acted_as};
+ghost use Rattle.list.specs.Rows.{acted_as, RowLeaves};
 
 use crate::Acted;
 use crate::access::Field;
 use crate::actor::Actor;
 use record::{DELETES, FAIL, INSERTS, NO_ANSWER, NO_NODE, Outcome, Record};
 
+#[tactic(auto, unfolding(table::specs::Places::row, table::specs::Places::place_of, crate::specs::Rows::RowLeaves))]
 impl Actor {
     // Place 13: read own record: it has its answer, it searches, it looks at its node, or it fails.
-    #[tactic(auto, unfolding(table::specs::Places::row, table::specs::Places::place_of))]
     pub(crate) fn row_13(self) -> Record
-        ensures { (m : Memory) → row_left m (Some result) ≡ row_made m self.process self.before (row m.addresses (place_of 13) self.before) }
+        ensures { RowLeaves 13 self.sizes self.process self.before (λ m. m) (λ m. m) (Some result) }
     {
         if self.before.kept.result != NO_ANSWER {
             return self.before.goes_with(19, self.before.kept.result);
@@ -31,20 +31,16 @@ impl Actor {
     }
 
     // Place 14: read own link.
-    #[tactic(auto, unfolding(table::specs::Places::row, table::specs::Places::place_of))]
     pub(crate) fn row_14(self, links: &[u32]) -> Option<Record>
-        ensures { (addresses deleters : List ℕ) → row_left (lent_memory addresses links.now deleters self.sizes) result ≡
-            row_made (lent_memory addresses links.now deleters self.sizes) self.process self.before (row addresses (place_of 14) self.before) }
+        ensures { RowLeaves 14 self.sizes self.process self.before (links≔ links.now) (links≔ links.now) result }
     {
         let read = self.read_link(links, Field::Own)?;
         Some(self.before.recovers(read.mark))
     }
 
     // Place 15: read own link.
-    #[tactic(auto, unfolding(table::specs::Places::row, table::specs::Places::place_of))]
     pub(crate) fn row_15(self, links: &[u32]) -> Option<Record>
-        ensures { (addresses deleters : List ℕ) → row_left (lent_memory addresses links.now deleters self.sizes) result ≡
-            row_made (lent_memory addresses links.now deleters self.sizes) self.process self.before (row addresses (place_of 15) self.before) }
+        ensures { RowLeaves 15 self.sizes self.process self.before (links≔ links.now) (links≔ links.now) result }
     {
         let read = self.read_link(links, Field::Own)?;
         if read.mark {
@@ -54,29 +50,24 @@ impl Actor {
     }
 
     // Place 16: swap own deleter from none to p.
-    #[tactic(auto, unfolding(table::specs::Places::row, table::specs::Places::place_of))]
     pub(crate) fn row_16(self, links: &[u32], deleters: &mut [u32]) -> Option<Record>
-        ensures { (addresses : List ℕ) → row_left (lent_memory addresses links.now deleters.new self.sizes) result ≡
-            row_made (lent_memory addresses links.now deleters.old self.sizes) self.process self.before (row addresses (place_of 16) self.before) }
+        ensures { RowLeaves 16 self.sizes self.process self.before (λ m. links≔ links.now (deleters≔ deleters.old m)) (λ m. links≔ links.now (deleters≔ deleters.new m)) result }
     {
         self.swap_deleter(links, deleters, Field::Own)?;
         Some(self.before.goes(17))
     }
 
     // Place 17: read own deleter.
-    #[tactic(auto, unfolding(table::specs::Places::row, table::specs::Places::place_of))]
     pub(crate) fn row_17(self, links: &[u32], deleters: &[u32]) -> Option<Record>
-        ensures { (addresses : List ℕ) → row_left (lent_memory addresses links.now deleters.now self.sizes) result ≡
-            row_made (lent_memory addresses links.now deleters.now self.sizes) self.process self.before (row addresses (place_of 17) self.before) }
+        ensures { RowLeaves 17 self.sizes self.process self.before (λ m. links≔ links.now (deleters≔ deleters.now m)) (λ m. links≔ links.now (deleters≔ deleters.now m)) result }
     {
         let mine = self.read_deleter(links, deleters, Field::Own)?;
         Some(self.before.recovers(mine))
     }
 
     // Place 18: the pending answer is written as the kept result.
-    #[tactic(auto, unfolding(table::specs::Places::row, table::specs::Places::place_of))]
     pub(crate) fn row_18(self) -> Record
-        ensures { (m : Memory) → row_left m (Some result) ≡ row_made m self.process self.before (row m.addresses (place_of 18) self.before) }
+        ensures { RowLeaves 18 self.sizes self.process self.before (λ m. m) (λ m. m) (Some result) }
     {
         self.before.keeps_answer()
     }

@@ -3,7 +3,7 @@ ghost use Rattle.std.specs.Prelude.{◌≡◌, List, ℕ};
 ghost use Rattle.table.specs.Words.{Memory, addresses≔, links≔, equal};
 ghost use Rattle.table.specs.Places.{row, place_of, search_ends};
 ghost use Rattle.words.specs.LentMemory.{lent_memory};
-ghost use Rattle.list.specs.Rows.{row_left, row_made, followed};
+ghost use Rattle.list.specs.Rows.{followed, RowLeaves};
 ghost use Rattle.record.specs.Record.{◌▸◌, succ≔};
 
 use crate::access::Field;
@@ -11,19 +11,17 @@ use crate::actor::Actor;
 use record::{FALSE, INSERTS, Node, Record, TRUE, either};
 use std::cmp::Ordering;
 
+#[tactic(auto, unfolding(table::specs::Places::row, table::specs::Places::place_of, crate::specs::Rows::RowLeaves, words::specs::LentWords::compared_of, table::specs::Places::search_ends))]
 impl Actor {
     // Place 0: read head's link.
-    #[tactic(auto, unfolding(table::specs::Places::row, table::specs::Places::place_of))]
     pub(crate) fn row_0(self, links: &[u32]) -> Option<Record>
-        ensures { (addresses deleters : List ℕ) → row_left (lent_memory addresses links.now deleters self.sizes) result ≡
-            row_made (lent_memory addresses links.now deleters self.sizes) self.process self.before (row addresses (place_of 0) self.before) }
+        ensures { RowLeaves 0 self.sizes self.process self.before (links≔ links.now) (links≔ links.now) result }
     {
         let read = self.read_link(links, Field::Head)?;
         Some(self.before.from_head(read.target))
     }
 
     // The end of a search, at the address or past it; succ is the target.
-    #[tactic(auto, unfolding(table::specs::Places::search_ends))]
     fn search_ends(self, links: &[u32], target: Node, same: bool) -> Option<Record>
         ensures { (addresses deleters : List ℕ) → same ≡ equal addresses self.before.lost.curr self.before.kept.address →
             result ≡ followed (lent_memory addresses links.now deleters self.sizes) self.before (search_ends addresses (self.before ▸ succ≔ target)) }
@@ -48,10 +46,8 @@ impl Actor {
     }
 
     // Place 1: read curr's link; on to the next node, or the search ends.
-    #[tactic(auto, unfolding(table::specs::Places::row, table::specs::Places::place_of, words::specs::LentWords::compared_of))]
     pub(crate) fn row_1(self, addresses: &[u32], links: &[u32]) -> Option<Record>
-        ensures { (deleters : List ℕ) → row_left (lent_memory addresses.now links.now deleters self.sizes) result ≡
-            row_made (lent_memory addresses.now links.now deleters self.sizes) self.process self.before (row addresses.now (place_of 1) self.before) }
+        ensures { RowLeaves 1 self.sizes self.process self.before (λ m. links≔ links.now (addresses≔ addresses.now m)) (λ m. links≔ links.now (addresses≔ addresses.now m)) result }
     {
         let read = self.read_link(links, Field::Curr)?;
         if read.mark {
@@ -68,10 +64,8 @@ impl Actor {
     }
 
     // Place 2: swap pred's link from curr to succ.
-    #[tactic(auto, unfolding(table::specs::Places::row, table::specs::Places::place_of))]
     pub(crate) fn row_2(self, links: &mut [u32]) -> Option<Record>
-        ensures { (addresses deleters : List ℕ) → row_left (lent_memory addresses links.new deleters self.sizes) result ≡
-            row_made (lent_memory addresses links.old deleters self.sizes) self.process self.before (row addresses (place_of 2) self.before) }
+        ensures { RowLeaves 2 self.sizes self.process self.before (links≔ links.old) (links≔ links.new) result }
     {
         let swap = self.swap_link(links, Field::Pred, Field::Curr, Field::Succ, false)?;
         Some(either(swap.wrote, self.before.unlinked(), self.before.goes(0)))

@@ -13,7 +13,6 @@ use record::Refusal;
 impl Actor {
     // The row of a record whose fields are in their ranges. The places of inserts and deletes, 0 to 10, stand under one range: no arm is then so deep
     // that the compiler takes it for rare and leaves its row a call, for which it would hold every record in memory.
-    #[tactic(auto, using(crate::proofs::Turns::answers))]
     fn row(self, addresses: &[u32], links: &mut [u32], deleters: &mut [u32]) -> Acted
         requires { in_range self.before ≡ true }
         ensures { left (lent_memory addresses.now links.new deleters.new self.sizes) result ≡
