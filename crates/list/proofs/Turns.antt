@@ -24,14 +24,14 @@ use Rattle.table.specs.Places.{read_link, write_link, swap_link, read_deleter, s
 use Rattle.table.specs.Steps.{usable, all_usable, all_used, in_range, turn_in, word_met, own_usable, record_after, field_of, access_of, access_in}
 use Rattle.table.specs.Events.{Left, step, leaving, refused}
 use Rattle.table.proofs.Laws.Ranges.{condition}
-use Rattle.words.specs.LentMemory.{lent_memory}
-use Rattle.words.specs.declared.Sizes.{Sizes}
+use Rattle.words.specs.LentMemory.{lent_memory, sized}
 use Rattle.words.specs.LentWords.{link_met, SwapLeft, swap_left, swapped, swap_of}
 use Rattle.words.specs.declared.LinkRead.{LinkRead}
 use Rattle.list.specs.Accesses.{◌>>=◌, usable_node, link_read, deleter_read, write_made, swap_made, access_made, link_written, link_swap, deleter_swap}
 use Rattle.list.specs.declared.Acted.{Acted}
+use Rattle.words.specs.declared.Sizes.{Sizes}
 use Rattle.list.specs.Acting.{left}
-use Rattle.list.specs.Rows.{acted_as, turned, RowLeft, row_left, followed, row_made}
+use Rattle.list.specs.Rows.{RowLeaves, acted_as, turned, RowLeft, row_left, followed, row_made}
 
 -- what a step leaves, of what its row leaves and says
 abbrev leaves : Record → Outcome → RowLeft → Left
@@ -161,28 +161,34 @@ module _ (m : Memory) (p : Process) (r : Record) where
 pub past_the_table : (d : Left) (m : Memory) (p : Process) (r : Record) → in_range r ≡ true → 19 < r.lost.place → d ≡ step m p r
 past_the_table d m p r ranged past = absurd (omega (arith, leb-true r.lost.place 19 (condition r ranged 0)))
 
-module _ (sizes : Sizes) (addresses links deleters links' deleters' : List ℕ) (p : Process) (r : Record) (a : Acted) where
+module _ (sizes : Sizes) (p : Process) (r : Record) (addresses links deleters : List ℕ) (a : Acted) where
+
   abbrev lent : Memory
   lent = lent_memory addresses links deleters sizes
 
-  abbrev lent' : Memory
-  lent' = lent_memory addresses links' deleters' sizes
-
-  turned_is : (after : Option Record) → left lent' (turned sizes r after) ≡ leaves r Accepted (row_left lent' after)
-  turned_is (Some after) = refl
-  turned_is None = refl
+  turned_is : (m : Memory) (after : Option Record) → sized sizes m ≡ m → left m (turned sizes r after) ≡ leaves r Accepted (row_left m after)
+  turned_is m (Some after) same = ap (λ (k : Memory). leaving k after Accepted) same
+  turned_is m None same = ap (λ (k : Memory). leaving k r (Refused 8)) same
 
   -- a row below 19, from what its code tells of it
-  pub takes : (n : ℕ) (after : Option Record) → a ≡ turned sizes r after →
-      row_left lent' after ≡ row_made lent p r (row addresses (place_of n) r) → in_range r ≡ true → r.lost.place ≡ n → n < 19 →
-      left lent' a ≡ step lent p r
-  takes n after is told ranged at early =
-      ap (left lent') is ∙ turned_is after ∙ ap (leaves r Accepted) told
-      ∙ ap (λ (o : Outcome). leaves r o (row_made lent p r (row addresses (place_of n) r))) (sym (accepted_before lent p r n early))
-      ∙ made lent p r (row addresses (place_of n) r) ∙ ranged_step lent p r ranged n at
+  pub takes : (links' deleters' : List ℕ) (n : ℕ) (before after : Memory → Memory) (told : Option Record) →
+      RowLeaves n sizes p r before after told → a ≡ turned sizes r told →
+      sized sizes (before lent) ≡ lent → sized sizes (after lent) ≡ lent_memory addresses links' deleters' sizes →
+      in_range r ≡ true → r.lost.place ≡ n → n < 19 → left (lent_memory addresses links' deleters' sizes) a ≡ step lent p r
+  unfolding RowLeaves
+  takes links' deleters' n before after told made_so is was then ranged at early =
+      let m' : Memory = lent_memory addresses links' deleters' sizes in
+      let here : Row = row addresses (place_of n) r in
+      let left_so : row_left m' told ≡ row_made lent p r here =
+          ap (λ (k : Memory). row_left k told) (sym then) ∙ made_so lent
+          ∙ ap (λ (k : Memory). row_made k p r (row k.addresses (place_of n) r)) was in
+      ap (left m') is ∙ turned_is m' told refl ∙ ap (leaves r Accepted) left_so
+      ∙ ap (λ (o : Outcome). leaves r o (row_made lent p r here)) (sym (accepted_before lent p r n early))
+      ∙ made lent p r here ∙ ranged_step lent p r ranged n at
 
   -- the last
-  pub answers : a ≡ acted_as sizes (r ▸ status≔ idle_status) (Answered r.lost.pending) → in_range r ≡ true → r.lost.place ≡ 19 → left lent a ≡ step lent p r
+  pub answers : a ≡ acted_as sizes (r ▸ status≔ idle_status) (Answered r.lost.pending) → in_range r ≡ true → r.lost.place ≡ 19 →
+      left lent a ≡ step lent p r
   unfolding row place_of
   answers is ranged at = ap (left lent) is ∙ made lent p r (row addresses (place_of 19) r) ∙ ranged_step lent p r ranged 19 at
 

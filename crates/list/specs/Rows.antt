@@ -7,7 +7,7 @@ use Rattle.record.specs.declared.Record.{Record}
 use Rattle.record.specs.declared.Outcome.{Outcome}
 use Rattle.record.specs.declared.Outcome.TheVariants.{Refused, Accepted}
 use Rattle.table.specs.Words.{Memory, links≔, deleters≔, in_use}
-use Rattle.table.specs.Places.{own, Next, goes, uses_own, Row}
+use Rattle.table.specs.Places.{own, Next, goes, uses_own, Row, place_of, row}
 use Rattle.table.specs.Places.{read_link, write_link, swap_link, read_deleter, swap_deleter, write_node, own_record, hand_out}
 use Rattle.words.specs.LentMemory.{sized}
 use Rattle.words.specs.declared.Sizes.{Sizes}
@@ -58,3 +58,9 @@ row_made m p r (swap_deleter f after) =
 row_made m p r (write_node f after) = row_left m (option_map (λ n. after) (usable_node m r f))
 row_made m p r (own_record after) = row_left m (Some after)
 row_made m p r (hand_out answer after) = row_left m (Some after)
+
+-- the row of place n, as the place table has it, in any memory that the tables lent to it are put into, before and after it; and the record after it,
+-- none where it is refused with 8
+unfoldable pub RowLeaves : (n : ℕ) → Sizes → Process → Record → (before after : Memory → Memory) → Option Record → Type 0
+RowLeaves n sizes p r before after left =
+    (m : Memory) → row_left (sized sizes (after m)) left ≡ row_made (sized sizes (before m)) p r (row (before m).addresses (place_of n) r)

@@ -5,6 +5,7 @@ ghost use Rattle.record.specs.declared.Outcome.TheVariants.{Refused, Accepted};
 ghost use Rattle.list.specs.Rows.{acted_as, turned};
 
 use crate::Acted;
+use crate::actor::Actor;
 use record::{Outcome, Record, Refusal};
 use words::Sizes;
 
@@ -30,12 +31,14 @@ pub(crate) fn accepted(sizes: Sizes, after: Record) -> Acted
     }
 }
 
-// The record after an accepted step; or the old one, where the step is refused with 8.
-pub(crate) fn turned(sizes: Sizes, old: Record, after: Option<Record>) -> Acted
-    ensures { result ≡ turned sizes old after }
-{
-    match after {
-        Some(after) => accepted(sizes, after),
-        None => refused(sizes, old, Refusal::Broken),
+impl Actor {
+    // The record after an accepted step; or the one before, where the step is refused with 8.
+    pub(crate) fn turned(self, after: Option<Record>) -> Acted
+        ensures { result ≡ turned self.sizes self.before after }
+    {
+        match after {
+            Some(after) => accepted(self.sizes, after),
+            None => refused(self.sizes, self.before, Refusal::Broken),
+        }
     }
 }

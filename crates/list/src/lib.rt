@@ -7,6 +7,7 @@ ghost use Rattle.words.specs.LentMemory.{memory_of, SameTables};
 ghost use Rattle.list.specs.Acting.{left};
 
 mod access;
+mod actor;
 mod answers;
 mod delete;
 mod event;
@@ -16,6 +17,7 @@ mod recovery;
 mod search;
 mod step;
 
+use actor::Actor;
 use record::{Action, Outcome, Process, Record, Refusal};
 use words::{Sizes, Tables};
 
@@ -52,5 +54,10 @@ pub fn act(
     if record.kept.status != event::status_needed(action) {
         return answers::refused(sizes, record, Refusal::WrongStatus);
     }
-    event::does(addresses, links, deleters, sizes, process, record, action)
+    let actor = Actor {
+        sizes,
+        process,
+        before: record,
+    };
+    actor.does(addresses, links, deleters, action)
 }

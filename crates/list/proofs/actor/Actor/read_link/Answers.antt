@@ -2,8 +2,8 @@
 use Rattle.std.proofs.Common.{rules}
 use Rattle.words.specs.LentMemory.{lent_memory}
 use Rattle.list.specs.Accesses.{link_read}
-use Rattle.list.proofs.access.read_link.Goals as goal
+use Rattle.list.proofs.actor.Actor.read_link.Goals as goal
 
 pub returns : goal.returns
 unfolding link_read
-returns c a d = search (rules, c.link_met.ensures (lent_memory a c.args.links.now d c.args.sizes), c.usable.ensures a d)
+returns c a d = search (rules, c.link_met.ensures (lent_memory a c.args.links.now d c.args.self.sizes), c.usable.ensures a d)
