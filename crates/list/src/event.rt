@@ -20,17 +20,14 @@ pub(crate) fn status_needed(action: Action) -> u8
     ensures { result ≡ status_needed action }
 {
     match action {
-        Action::Insert(_) => IDLE,
-        Action::Delete(_) => IDLE,
-        Action::Find(_) => IDLE,
-        Action::Step => RUNNING,
-        Action::Stop => RUNNING,
+        Action::Insert(_) | Action::Delete(_) | Action::Find(_) => IDLE,
+        Action::Step | Action::Stop => RUNNING,
         Action::Restart => DOWN,
     }
 }
 
 // The words of the next node: its address, its link unmarked to tail, deleter none.
-#[tactic(auto, using(crate::proofs::Judged::given))]
+#[tactic(auto, unfolding(table::specs::Words::given_out))]
 fn give_out(
     addresses: &mut [u32],
     links: &mut [u32],
