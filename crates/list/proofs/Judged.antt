@@ -1,5 +1,4 @@
--- An event judged: refusals 7, 1, 2 in this order, then what each action does; and what follows of tables that fit. Rests on the table's Events and
--- on Rows.
+-- What follows of tables that fit, and what an insert does. Rests on the table's Events and on Rows.
 use mathlib.Core.Path.{◌≡◌, refl, ap, sym, ◌∙◌}
 use mathlib.Core.Bool.{Bool, true, false, not}
 use mathlib.Core.List.{List}
@@ -42,15 +41,6 @@ able addresses links deleters sizes p fits is told there =
     let m : Memory = lent_memory addresses links deleters sizes in
     let fit : tables_fit m ≡ true = sym is ∙ not-false fits told in
     (within m sizes fit, omega (arith, there, (limits m fit).few_processes))
-
--- a node given out
-pub given : (m : Memory) (addresses links deleters addresses' links' deleters' : List ℕ) (taken : Node) (a : Address) (link : ℕ) →
-    next_node m ≡ taken → link ≡ link_word tail_node false →
-    addresses' ≡ set addresses taken.0 a.0 → links' ≡ set links taken.0 link → deleters' ≡ set deleters taken.0 0 →
-    addresses≔ addresses' (links≔ links' (deleters≔ deleters' (count≔ (m.count + 1) m))) ≡
-    given_out a (addresses≔ addresses (links≔ links (deleters≔ deleters m)))
-unfolding given_out
-given m addresses links deleters addresses' links' deleters' taken a link next made i j k = rw (i, j, k, made, ← next)
 
 -- insert: the table is full, or the next node is given out
 module _ (addresses links deleters : List ℕ) (sizes : Sizes) (p : Process) (r : Record) (a : Address) (b : Acted) where

@@ -1,5 +1,5 @@
 // One action: the status that it needs, and what each does. Rests on the step.
-ghost use Rattle.std.specs.Prelude.{◌≡◌, ◌<◌, ◌+◌};
+ghost use Rattle.std.specs.Prelude.{◌≡◌, ◌+◌};
 ghost use Rattle.record.specs.declared.Action.TheVariants as of;
 ghost use Rattle.table.specs.Words.{Memory, addresses≔, links≔, deleters≔, count≔, next_node, given_out};
 ghost use Rattle.table.specs.Events.{does, status_needed};
