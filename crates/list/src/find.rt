@@ -15,8 +15,14 @@ impl Actor {
     {
         let read = self.read_link(links, Field::Curr)?;
         match words::compare(addresses, read.target, self.before.kept.address) {
-            Ordering::Less => Some(self.before.walked(read.target, 11, self.before.lost.pending)),
-            Ordering::Equal => Some(self.before.walked(read.target, 12, self.before.lost.pending)),
+            Ordering::Less => Some(
+                self.before
+                    .walked(read.target, 11, self.before.lost.pending),
+            ),
+            Ordering::Equal => Some(
+                self.before
+                    .walked(read.target, 12, self.before.lost.pending),
+            ),
             Ordering::Greater => Some(self.before.walked(read.target, 19, FALSE)),
         }
     }
