@@ -1,12 +1,12 @@
 -- Link words as the code makes them, of nodes that a row may use: what is written, and what is swapped. Rests on Accesses and Rows.
-use mathlib.Core.Path.{◌≡◌, refl, sym, ◌∙◌}
+use mathlib.Core.Path.{◌≡◌, refl, ◌∙◌}
 use mathlib.Core.Bool.{Bool, true, false, not}
 use mathlib.Core.List.{List}
 use Prim.Native.Nat.{ℕ, ◌<◌, ◌%◌}
 use lib.Dec.{eqb}
 use lib.ListN.{set}
 use native.Mathlib.Omega.{arith}
-use Rattle.std.specs.Prelude.{Option, Some, None}
+use Rattle.std.specs.Prelude.{Some}
 use Rattle.record.specs.declared.Node.{Node}
 use Rattle.record.specs.declared.Record.{Record}
 use Rattle.table.specs.Words.{Memory, link_word, in_use}

@@ -1,4 +1,4 @@
 pub mod Accessed
-pub mod Judged
+pub mod Actors
 pub mod Turns
 pub mod Unique

@@ -3,13 +3,12 @@
 use mathlib.Core.Path.{◌≡◌, refl, sym, ap, ◌∙◌}
 use mathlib.Core.Bool.{Bool, true, false, cond, ◌&&◌}
 use mathlib.Core.List.{List, [], ◌∷◌, ◌++◌}
-use Prim.Native.Nat.{ℕ, zero, suc, ◌<◌, ◌≤◌}
+use Prim.Native.Nat.{ℕ, zero, suc, ◌<◌}
 use lib.Dec.{eqb}
 use lib.ListN.{length, get_or, set}
 use native.Mathlib.Omega.{arith}
 use borrow.Author.Tests.{leb-true}
 use Rattle.std.specs.Prelude.{Option, Some, None, option_map}
-use Rattle.basics.proofs.Tests.{by-test}
 use Rattle.record.specs.Record.{◌▸◌, status≔, idle_status}
 use Rattle.record.specs.declared.Node.{Node}
 use Rattle.record.specs.declared.Process.{Process}
@@ -18,10 +17,10 @@ use Rattle.record.specs.declared.Outcome.{Outcome}
 use Rattle.record.specs.declared.Outcome.TheVariants.{Refused, Accepted, Answered}
 use Rattle.table.specs.Words.{Memory, links≔, deleters≔, link_at, deleter_at, target_of, is_marked, in_use, written, deleter_word, no_deleter}
 use Rattle.table.specs.Words.{nothing, link_is, deleter_is}
-use Rattle.table.specs.Places.{Field, own, Next, goes, uses_own, node_of, link_of, Place, place_of, Row, row}
+use Rattle.table.specs.Places.{own, Next, goes, uses_own, node_of, link_of, Place, place_of, Row, row}
 use Rattle.table.specs.Places.{p0, p1, p2, p3, p4, p5, p6, p7, p8, p9, p10, p11, p12, p13, p14, p15, p16, p17, p18, p19, off}
 use Rattle.table.specs.Places.{read_link, write_link, swap_link, read_deleter, swap_deleter, write_node, own_record, hand_out}
-use Rattle.table.specs.Steps.{usable, all_usable, all_used, in_range, turn_in, word_met, own_usable, record_after, field_of, access_of, access_in}
+use Rattle.table.specs.Steps.{usable, all_usable, all_used, in_range, turn_in, word_met, own_usable, record_after, field_of, access_of}
 use Rattle.table.specs.Events.{Left, step, leaving, refused}
 use Rattle.table.proofs.Laws.Ranges.{condition}
 use Rattle.words.specs.LentMemory.{lent_memory, sized}
@@ -162,7 +161,6 @@ pub past_the_table : (d : Left) (m : Memory) (p : Process) (r : Record) → in_r
 past_the_table d m p r ranged past = absurd (omega (arith, leb-true r.lost.place 19 (condition r ranged 0)))
 
 module _ (sizes : Sizes) (p : Process) (r : Record) (addresses links deleters : List ℕ) (a : Acted) where
-
   abbrev lent : Memory
   lent = lent_memory addresses links deleters sizes
 
@@ -180,8 +178,8 @@ module _ (sizes : Sizes) (p : Process) (r : Record) (addresses links deleters : 
       let m' : Memory = lent_memory addresses links' deleters' sizes in
       let here : Row = row addresses (place_of n) r in
       let left_so : row_left m' told ≡ row_made lent p r here =
-          ap (λ (k : Memory). row_left k told) (sym then) ∙ made_so lent
-          ∙ ap (λ (k : Memory). row_made k p r (row k.addresses (place_of n) r)) was in
+      ap (λ (k : Memory). row_left k told) (sym then) ∙ made_so lent
+      ∙ ap (λ (k : Memory). row_made k p r (row k.addresses (place_of n) r)) was in
       ap (left m') is ∙ turned_is m' told refl ∙ ap (leaves r Accepted) left_so
       ∙ ap (λ (o : Outcome). leaves r o (row_made lent p r here)) (sym (accepted_before lent p r n early))
       ∙ made lent p r here ∙ ranged_step lent p r ranged n at

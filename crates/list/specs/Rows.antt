@@ -64,3 +64,7 @@ row_made m p r (hand_out answer after) = row_left m (Some after)
 unfoldable pub RowLeaves : (n : ℕ) → Sizes → Process → Record → (before after : Memory → Memory) → Option Record → Type 0
 RowLeaves n sizes p r before after left =
     (m : Memory) → row_left (sized sizes (after m)) left ≡ row_made (sized sizes (before m)) p r (row (before m).addresses (place_of n) r)
+
+-- the same of a row that writes no table
+abbrev pub RowTells : (n : ℕ) → Sizes → Process → Record → (lent : Memory → Memory) → Option Record → Type 0
+RowTells n sizes p r lent left = RowLeaves n sizes p r lent lent left

@@ -1,9 +1,6 @@
 // Rows 5 to 10: delete. Rests on accesses.
-ghost use Rattle.std.specs.Prelude.{◌≡◌, List, ℕ, ◌<◌};
-ghost use Rattle.table.specs.Words.{Memory, links≔, deleters≔};
-ghost use Rattle.table.specs.Places.{row, place_of};
-ghost use Rattle.words.specs.LentMemory.{lent_memory};
-ghost use Rattle.list.specs.Rows.{RowLeaves};
+ghost use Rattle.table.specs.Words.{links≔, deleters≔};
+ghost use Rattle.list.specs.Rows.{RowLeaves, RowTells};
 
 use crate::access::Field;
 use crate::actor::Actor;
@@ -13,7 +10,7 @@ use record::{Record, either};
 impl Actor {
     // Place 5: write curr as the record's node.
     pub(crate) fn row_5(self, links: &[u32]) -> Option<Record>
-        ensures { RowLeaves 5 self.sizes self.process self.before (links≔ links.now) (links≔ links.now) result }
+        ensures { RowTells 5 self.sizes self.process self.before (links≔ links.now) result }
     {
         self.usable(links, Field::Curr)?;
         Some(self.before.takes_curr())
@@ -21,7 +18,7 @@ impl Actor {
 
     // Place 6: read curr's link.
     pub(crate) fn row_6(self, links: &[u32]) -> Option<Record>
-        ensures { RowLeaves 6 self.sizes self.process self.before (links≔ links.now) (links≔ links.now) result }
+        ensures { RowTells 6 self.sizes self.process self.before (links≔ links.now) result }
     {
         let read = self.read_link(links, Field::Curr)?;
         Some(self.before.found(read.target, either(read.mark, 8, 7)))
@@ -53,7 +50,7 @@ impl Actor {
 
     // Place 10: read curr's deleter.
     pub(crate) fn row_10(self, links: &[u32], deleters: &[u32]) -> Option<Record>
-        ensures { RowLeaves 10 self.sizes self.process self.before (λ m. links≔ links.now (deleters≔ deleters.now m)) (λ m. links≔ links.now (deleters≔ deleters.now m)) result }
+        ensures { RowTells 10 self.sizes self.process self.before (λ m. links≔ links.now (deleters≔ deleters.now m)) result }
     {
         let mine = self.read_deleter(links, deleters, Field::Curr)?;
         Some(self.before.told_by_deleter(mine))

@@ -1,7 +1,8 @@
 // One action: the status that it needs, and what each does. Rests on the step.
-ghost use Rattle.std.specs.Prelude.{◌≡◌, ◌<◌, ◌+◌};
+ghost use Rattle.std.specs.Prelude.{◌≡◌, false, set};
+ghost use Rattle.record.specs.Record.{tail_node};
 ghost use Rattle.record.specs.declared.Action.TheVariants as of;
-ghost use Rattle.table.specs.Words.{Memory, addresses≔, links≔, deleters≔, count≔, next_node, given_out};
+ghost use Rattle.table.specs.Words.{link_word, no_deleter};
 ghost use Rattle.table.specs.Events.{does, status_needed};
 ghost use Rattle.words.specs.LentMemory.{lent_memory};
 ghost use Rattle.list.specs.Acting.{left};
@@ -20,17 +21,13 @@ pub(crate) fn status_needed(action: Action) -> u8
     ensures { result ≡ status_needed action }
 {
     match action {
-        Action::Insert(_) => IDLE,
-        Action::Delete(_) => IDLE,
-        Action::Find(_) => IDLE,
-        Action::Step => RUNNING,
-        Action::Stop => RUNNING,
+        Action::Insert(_) | Action::Delete(_) | Action::Find(_) => IDLE,
+        Action::Step | Action::Stop => RUNNING,
         Action::Restart => DOWN,
     }
 }
 
 // The words of the next node: its address, its link unmarked to tail, deleter none.
-#[tactic(auto, using(crate::proofs::Judged::given))]
 fn give_out(
     addresses: &mut [u32],
     links: &mut [u32],
@@ -38,9 +35,9 @@ fn give_out(
     taken: Node,
     address: Address,
 )
-    ensures { (m : Memory) → next_node m ≡ taken →
-        addresses≔ addresses.new (links≔ links.new (deleters≔ deleters.new (count≔ (m.count + 1) m))) ≡
-        given_out address (addresses≔ addresses.old (links≔ links.old (deleters≔ deleters.old m))) }
+    ensures address { addresses.new ≡ set addresses.old taken.0 address.0 }
+    ensures link { links.new ≡ set links.old taken.0 (link_word tail_node false) }
+    ensures deleter { deleters.new ≡ set deleters.old taken.0 no_deleter }
 {
     let link = words::link_word(TAIL, false);
     words::write(addresses, taken, address.0);
@@ -61,6 +58,7 @@ impl Actor {
     }
 
     // Insert: takes the next node, sets its address, links it unmarked to tail, deleter none.
+    #[tactic(auto, unfolding(table::specs::Events::does, table::specs::Words::given_out))]
     fn insert(
         self,
         addresses: &mut [u32],

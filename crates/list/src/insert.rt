@@ -1,8 +1,5 @@
 // Rows 3 and 4: insert. Rests on accesses.
-ghost use Rattle.std.specs.Prelude.{◌≡◌, List, ℕ};
-ghost use Rattle.table.specs.Words.{Memory, links≔};
-ghost use Rattle.table.specs.Places.{row, place_of};
-ghost use Rattle.words.specs.LentMemory.{lent_memory};
+ghost use Rattle.table.specs.Words.{links≔};
 ghost use Rattle.list.specs.Rows.{RowLeaves};
 
 use crate::access::Field;

@@ -1,11 +1,9 @@
 // Rows 13 to 17: recovery; rows 18 and 19: the answer. Rests on accesses.
-ghost use Rattle.std.specs.Prelude.{◌≡◌, List, ℕ, ◌<◌, Some};
+ghost use Rattle.std.specs.Prelude.{◌≡◌, Some};
 ghost use Rattle.record.specs.Record.{◌▸◌, status≔, idle_status};
 ghost use Rattle.record.specs.declared.Outcome.TheVariants.{Answered};
-ghost use Rattle.table.specs.Words.{Memory, links≔, deleters≔};
-ghost use Rattle.table.specs.Places.{row, place_of};
-ghost use Rattle.words.specs.LentMemory.{lent_memory};
-ghost use Rattle.list.specs.Rows.{acted_as, RowLeaves};
+ghost use Rattle.table.specs.Words.{links≔, deleters≔};
+ghost use Rattle.list.specs.Rows.{acted_as, RowLeaves, RowTells};
 
 use crate::Acted;
 use crate::access::Field;
@@ -16,7 +14,7 @@ use record::{DELETES, FAIL, INSERTS, NO_ANSWER, NO_NODE, Outcome, Record};
 impl Actor {
     // Place 13: read own record: it has its answer, it searches, it looks at its node, or it fails.
     pub(crate) fn row_13(self) -> Record
-        ensures { RowLeaves 13 self.sizes self.process self.before (λ m. m) (λ m. m) (Some result) }
+        ensures { RowTells 13 self.sizes self.process self.before (λ m. m) (Some result) }
     {
         if self.before.kept.result != NO_ANSWER {
             return self.before.goes_with(19, self.before.kept.result);
@@ -32,7 +30,7 @@ impl Actor {
 
     // Place 14: read own link.
     pub(crate) fn row_14(self, links: &[u32]) -> Option<Record>
-        ensures { RowLeaves 14 self.sizes self.process self.before (links≔ links.now) (links≔ links.now) result }
+        ensures { RowTells 14 self.sizes self.process self.before (links≔ links.now) result }
     {
         let read = self.read_link(links, Field::Own)?;
         Some(self.before.recovers(read.mark))
@@ -40,7 +38,7 @@ impl Actor {
 
     // Place 15: read own link.
     pub(crate) fn row_15(self, links: &[u32]) -> Option<Record>
-        ensures { RowLeaves 15 self.sizes self.process self.before (links≔ links.now) (links≔ links.now) result }
+        ensures { RowTells 15 self.sizes self.process self.before (links≔ links.now) result }
     {
         let read = self.read_link(links, Field::Own)?;
         if read.mark {
@@ -59,7 +57,7 @@ impl Actor {
 
     // Place 17: read own deleter.
     pub(crate) fn row_17(self, links: &[u32], deleters: &[u32]) -> Option<Record>
-        ensures { RowLeaves 17 self.sizes self.process self.before (λ m. links≔ links.now (deleters≔ deleters.now m)) (λ m. links≔ links.now (deleters≔ deleters.now m)) result }
+        ensures { RowTells 17 self.sizes self.process self.before (λ m. links≔ links.now (deleters≔ deleters.now m)) result }
     {
         let mine = self.read_deleter(links, deleters, Field::Own)?;
         Some(self.before.recovers(mine))
@@ -67,7 +65,7 @@ impl Actor {
 
     // Place 18: the pending answer is written as the kept result.
     pub(crate) fn row_18(self) -> Record
-        ensures { RowLeaves 18 self.sizes self.process self.before (λ m. m) (λ m. m) (Some result) }
+        ensures { RowTells 18 self.sizes self.process self.before (λ m. m) (Some result) }
     {
         self.before.keeps_answer()
     }

@@ -1,9 +1,9 @@
 // Rows 0 to 2: search. Rests on accesses.
 ghost use Rattle.std.specs.Prelude.{◌≡◌, List, ℕ};
-ghost use Rattle.table.specs.Words.{Memory, addresses≔, links≔, equal};
-ghost use Rattle.table.specs.Places.{row, place_of, search_ends};
+ghost use Rattle.table.specs.Words.{addresses≔, links≔, equal};
+ghost use Rattle.table.specs.Places.{search_ends};
 ghost use Rattle.words.specs.LentMemory.{lent_memory};
-ghost use Rattle.list.specs.Rows.{followed, RowLeaves};
+ghost use Rattle.list.specs.Rows.{followed, RowLeaves, RowTells};
 ghost use Rattle.record.specs.Record.{◌▸◌, succ≔};
 
 use crate::access::Field;
@@ -15,7 +15,7 @@ use std::cmp::Ordering;
 impl Actor {
     // Place 0: read head's link.
     pub(crate) fn row_0(self, links: &[u32]) -> Option<Record>
-        ensures { RowLeaves 0 self.sizes self.process self.before (links≔ links.now) (links≔ links.now) result }
+        ensures { RowTells 0 self.sizes self.process self.before (links≔ links.now) result }
     {
         let read = self.read_link(links, Field::Head)?;
         Some(self.before.from_head(read.target))
@@ -47,7 +47,7 @@ impl Actor {
 
     // Place 1: read curr's link; on to the next node, or the search ends.
     pub(crate) fn row_1(self, addresses: &[u32], links: &[u32]) -> Option<Record>
-        ensures { RowLeaves 1 self.sizes self.process self.before (λ m. links≔ links.now (addresses≔ addresses.now m)) (λ m. links≔ links.now (addresses≔ addresses.now m)) result }
+        ensures { RowTells 1 self.sizes self.process self.before (λ m. links≔ links.now (addresses≔ addresses.now m)) result }
     {
         let read = self.read_link(links, Field::Curr)?;
         if read.mark {

@@ -192,11 +192,11 @@ pub fn in_range(old: Record) -> bool
     let place = old.lost.place;
     let pending = old.lost.pending;
     let kind = old.kept.kind;
-    let ranged = (kind <= 2) & (pending <= 3) & (old.kept.result <= 2);
+    let ranged = kind <= 2 && pending <= 3 && old.kept.result <= 2;
     match place {
-        0..=2 => ranged & (kind != FINDS),
+        0..=2 => ranged && kind != FINDS,
         3..=17 => ranged,
-        18..=19 => ranged & (pending != NO_ANSWER) & ((place == 19) | (pending != FAIL)),
+        18..=19 => ranged && pending != NO_ANSWER && (place == 19 || pending != FAIL),
         _ => false,
     }
 }

@@ -1,5 +1,5 @@
--- Where the tables fit and the process is there, the sizes hold and the process is one of few. Rests on Judged.
-use Rattle.list.proofs.Judged.{able}
+-- Where the tables fit and the process is there, the sizes hold and the process is one of few. Rests on Actors.
+use Rattle.list.proofs.Actors.{able}
 use Rattle.list.proofs.act.Goals as goal
 
 pub invariant_of-actor : goal.invariant_of-actor
