@@ -1,45 +1,44 @@
 // Rows 5 to 10: delete. Rests on accesses.
-ghost use Rattle.std.specs.Prelude.{◌≡◌, ◌<◌};
+ghost use Rattle.std.specs.Prelude.{◌≡◌, List, ℕ, ◌<◌};
 ghost use Rattle.record.specs.declared.Process as spec;
 ghost use Rattle.table.specs.Words.{Memory, links≔, deleters≔};
-ghost use Rattle.table.specs.Events.{step};
-ghost use Rattle.words.specs.LentMemory.{sized};
-ghost use Rattle.list.specs.Acting.{left};
-ghost use Rattle.list.specs.Rows.{StandsAt, Within};
+ghost use Rattle.table.specs.Places.{row, place_of};
+ghost use Rattle.words.specs.LentMemory.{lent_memory};
+ghost use Rattle.list.specs.Rows.{Within, row_left, row_made};
 
+use crate::access;
 use crate::access::Field;
-use crate::{Acted, access, answers};
-use record::{Process, Record};
+use record::{Process, Record, either};
 use words::Sizes;
 
 // Place 5: write curr as the record's node.
-#[tactic(auto, using(crate::proofs::ByPlace::row_5_lem))]
-pub(crate) fn row_5(links: &[u32], sizes: Sizes, old: Record) -> Acted
-    requires { StandsAt 5 old }
-    ensures { (m : Memory) → (p : spec.Process) → left (links≔ links.now m) result ≡ step (sized sizes (links≔ links.now m)) p old }
+#[tactic(auto, unfolding(table::specs::Places::row, table::specs::Places::place_of))]
+pub(crate) fn row_5(links: &[u32], sizes: Sizes, old: Record) -> Option<Record>
+    ensures { (addresses deleters : List ℕ) → (p : spec.Process) → row_left (lent_memory addresses links.now deleters sizes) result ≡
+        row_made (lent_memory addresses links.now deleters sizes) p old (row addresses (place_of 5) old) }
 {
-    let accepted = access::usable(links, sizes, old, Field::Curr);
-    answers::turn(accepted, sizes, old, old.takes_curr())
+    access::usable(links, sizes, old, Field::Curr)?;
+    Some(old.takes_curr())
 }
 
 // Place 6: read curr's link.
-#[tactic(auto, using(crate::proofs::ByPlace::row_6_lem))]
-pub(crate) fn row_6(links: &[u32], sizes: Sizes, old: Record) -> Acted
-    requires { StandsAt 6 old }
-    ensures { (m : Memory) → (p : spec.Process) → left (links≔ links.now m) result ≡ step (sized sizes (links≔ links.now m)) p old }
+#[tactic(auto, unfolding(table::specs::Places::row, table::specs::Places::place_of))]
+pub(crate) fn row_6(links: &[u32], sizes: Sizes, old: Record) -> Option<Record>
+    ensures { (addresses deleters : List ℕ) → (p : spec.Process) → row_left (lent_memory addresses links.now deleters sizes) result ≡
+        row_made (lent_memory addresses links.now deleters sizes) p old (row addresses (place_of 6) old) }
 {
-    let read = access::read_link(links, sizes, old, Field::Curr);
-    let place = answers::pick(read.mark, 8, 7);
-    answers::turn(read.accepted, sizes, old, old.found(read.target, place))
+    let read = access::read_link(links, sizes, old, Field::Curr)?;
+    Some(old.found(read.target, either(read.mark, 8, 7)))
 }
 
 // Place 7: swap curr's link from succ to succ, marked.
-pub(crate) fn row_7(links: &mut [u32], sizes: Sizes, old: Record) -> Acted
-    requires stands_at { StandsAt 7 old }
-    requires within { Within sizes }
-    ensures { (m : Memory) → (p : spec.Process) → left (links≔ links.new m) result ≡ step (sized sizes (links≔ links.old m)) p old }
+#[tactic(auto, unfolding(table::specs::Places::row, table::specs::Places::place_of))]
+pub(crate) fn row_7(links: &mut [u32], sizes: Sizes, old: Record) -> Option<Record>
+    requires { Within sizes }
+    ensures { (addresses deleters : List ℕ) → (p : spec.Process) → row_left (lent_memory addresses links.new deleters sizes) result ≡
+        row_made (lent_memory addresses links.old deleters sizes) p old (row addresses (place_of 7) old) }
 {
-    let swap = access::swap_link(
+    access::swap_link(
         links,
         sizes,
         old,
@@ -47,17 +46,18 @@ pub(crate) fn row_7(links: &mut [u32], sizes: Sizes, old: Record) -> Acted
         Field::Succ,
         Field::Succ,
         true,
-    );
-    answers::swapped(swap, sizes, old, old.goes(6), old.goes(6))
+    )?;
+    Some(old.goes(6))
 }
 
 // Place 8: swap pred's link from curr to succ.
-pub(crate) fn row_8(links: &mut [u32], sizes: Sizes, old: Record) -> Acted
-    requires stands_at { StandsAt 8 old }
-    requires within { Within sizes }
-    ensures { (m : Memory) → (p : spec.Process) → left (links≔ links.new m) result ≡ step (sized sizes (links≔ links.old m)) p old }
+#[tactic(auto, unfolding(table::specs::Places::row, table::specs::Places::place_of))]
+pub(crate) fn row_8(links: &mut [u32], sizes: Sizes, old: Record) -> Option<Record>
+    requires { Within sizes }
+    ensures { (addresses deleters : List ℕ) → (p : spec.Process) → row_left (lent_memory addresses links.new deleters sizes) result ≡
+        row_made (lent_memory addresses links.old deleters sizes) p old (row addresses (place_of 8) old) }
 {
-    let swap = access::swap_link(
+    access::swap_link(
         links,
         sizes,
         old,
@@ -65,39 +65,40 @@ pub(crate) fn row_8(links: &mut [u32], sizes: Sizes, old: Record) -> Acted
         Field::Curr,
         Field::Succ,
         false,
-    );
-    answers::swapped(swap, sizes, old, old.goes(9), old.goes(9))
+    )?;
+    Some(old.goes(9))
 }
 
 // Place 9: swap curr's deleter from none to p.
+#[tactic(auto, unfolding(table::specs::Places::row, table::specs::Places::place_of))]
 pub(crate) fn row_9(
     links: &[u32],
     deleters: &mut [u32],
     sizes: Sizes,
     p: Process,
     old: Record,
-) -> Acted
-    requires stands_at { StandsAt 9 old }
-    requires p_bound { p.0 < 64 }
-    ensures { (m : Memory) → left (links≔ links.now (deleters≔ deleters.new m)) result ≡ step (sized sizes (links≔ links.now (deleters≔ deleters.old m))) p old }
+) -> Option<Record>
+    requires { p.0 < 64 }
+    ensures { (addresses : List ℕ) → row_left (lent_memory addresses links.now deleters.new sizes) result ≡
+        row_made (lent_memory addresses links.now deleters.old sizes) p old (row addresses (place_of 9) old) }
 {
-    let swap = access::swap_deleter(links, deleters, sizes, p, old, Field::Curr);
-    answers::turn(swap.accepted, sizes, old, old.goes(10))
+    access::swap_deleter(links, deleters, sizes, p, old, Field::Curr)?;
+    Some(old.goes(10))
 }
 
 // Place 10: read curr's deleter.
-#[tactic(auto, using(crate::proofs::ByPlace::row_10_lem))]
+#[tactic(auto, unfolding(table::specs::Places::row, table::specs::Places::place_of))]
 pub(crate) fn row_10(
     links: &[u32],
     deleters: &[u32],
     sizes: Sizes,
     p: Process,
     old: Record,
-) -> Acted
-    requires stands_at { StandsAt 10 old }
-    requires p_bound { p.0 < 64 }
-    ensures { (m : Memory) → left (links≔ links.now (deleters≔ deleters.now m)) result ≡ step (sized sizes (links≔ links.now (deleters≔ deleters.now m))) p old }
+) -> Option<Record>
+    requires { p.0 < 64 }
+    ensures { (addresses : List ℕ) → row_left (lent_memory addresses links.now deleters.now sizes) result ≡
+        row_made (lent_memory addresses links.now deleters.now sizes) p old (row addresses (place_of 10) old) }
 {
-    let read = access::read_deleter(links, deleters, sizes, p, old, Field::Curr);
-    answers::turn(read.accepted, sizes, old, old.told_by_deleter(read.mine))
+    let mine = access::read_deleter(links, deleters, sizes, p, old, Field::Curr)?;
+    Some(old.told_by_deleter(mine))
 }

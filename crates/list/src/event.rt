@@ -11,7 +11,7 @@ ghost use Rattle.list.specs.Rows.{Within, one_more};
 use crate::{Acted, answers, step};
 use record::{
     Action, Address, DELETES, DOWN, FINDS, IDLE, INSERTS, NO_NODE, Node, Process, RUNNING, Record,
-    TAIL,
+    Refusal, TAIL,
 };
 use words::Sizes;
 
@@ -74,7 +74,7 @@ fn insert(
         does (lent_memory addresses.old links.old deleters.old sizes) p old (of.Insert address) }
 {
     if sizes.count == sizes.nodes {
-        return answers::refused(sizes, old, 3);
+        return answers::refused(sizes, old, Refusal::NoNodeLeft);
     }
     let taken = Node(sizes.count);
     give_out(addresses, links, deleters, taken, address);

@@ -1,135 +1,76 @@
 // Rows 0 to 2: search. Rests on accesses.
-ghost use Rattle.std.specs.Prelude.{◌≡◌, cond};
-ghost use Rattle.record.specs.Record.{head_node};
+ghost use Rattle.std.specs.Prelude.{◌≡◌, List, ℕ};
 ghost use Rattle.record.specs.declared.Process as spec;
-ghost use Rattle.table.specs.Words.{Memory, addresses≔, links≔, in_use};
-ghost use Rattle.table.specs.Places as table;
-ghost use Rattle.table.specs.Steps.{usable};
-ghost use Rattle.table.specs.Events.{step};
-ghost use Rattle.words.specs.LentMemory.{sized};
-ghost use Rattle.words.specs.LentWords.{compared_of};
-ghost use Rattle.list.specs.Acting.{left};
-ghost use Rattle.list.specs.Accesses.{link_read};
-ghost use Rattle.list.specs.Rows.{StandsAt, Within, EndsAt};
+ghost use Rattle.table.specs.Words.{Memory, addresses≔, links≔, equal};
+ghost use Rattle.table.specs.Places.{row, place_of, search_ends};
+ghost use Rattle.words.specs.LentMemory.{lent_memory};
+ghost use Rattle.list.specs.Rows.{Within, row_left, row_made, followed};
+ghost use Rattle.record.specs.Record.{◌▸◌, succ≔};
 
+use crate::access;
 use crate::access::Field;
-use crate::{Acted, access, answers};
-use record::{FALSE, HEAD, INSERTS, Record, TRUE, either};
-use words::{Compared, LinkRead, Sizes};
-
-// Where a search that ends goes, and the pending answer that it goes with.
-#[derive(Clone, Copy)]
-pub(crate) struct Goal {
-    pub(crate) place: u8,
-    pub(crate) answer: u8,
-}
-
-// The end of a search: recovering or not, at own or not, for an insert or not, at the address or not.
-#[tactic(auto, unfolding(crate::specs::Rows::EndsAt, table::specs::Places::search_ends))]
-fn search_ends(recovering: bool, at_own: bool, inserts: bool, same: bool, pending: u8) -> Goal
-    ensures { EndsAt recovering at_own inserts same pending result }
-{
-    let found = Goal {
-        place: 18,
-        answer: TRUE,
-    };
-    let refuted = Goal {
-        place: 18,
-        answer: FALSE,
-    };
-    if recovering {
-        if at_own {
-            return found;
-        }
-        return Goal {
-            place: 14,
-            answer: pending,
-        };
-    }
-    if inserts {
-        if same {
-            return refuted;
-        }
-        return Goal {
-            place: 3,
-            answer: pending,
-        };
-    }
-    if same {
-        return Goal {
-            place: 5,
-            answer: pending,
-        };
-    }
-    refuted
-}
+use record::{FALSE, INSERTS, Node, Record, TRUE, either};
+use std::cmp::Ordering;
+use words::Sizes;
 
 // Place 0: read head's link.
-#[tactic(auto, using(crate::proofs::ByPlace::row_0_lem))]
-pub(crate) fn row_0(links: &[u32], sizes: Sizes, old: Record) -> Acted
-    requires { StandsAt 0 old }
-    ensures { (m : Memory) → (p : spec.Process) → left (links≔ links.now m) result ≡ step (sized sizes (links≔ links.now m)) p old }
+#[tactic(auto, unfolding(table::specs::Places::row, table::specs::Places::place_of))]
+pub(crate) fn row_0(links: &[u32], sizes: Sizes, old: Record) -> Option<Record>
+    ensures { (addresses deleters : List ℕ) → (p : spec.Process) → row_left (lent_memory addresses links.now deleters sizes) result ≡
+        row_made (lent_memory addresses links.now deleters sizes) p old (row addresses (place_of 0) old) }
 {
-    let read = access::read_link(links, sizes, old, Field::Head);
-    answers::turn(read.accepted, sizes, old, old.from_head(read.target))
+    let read = access::read_link(links, sizes, old, Field::Head)?;
+    Some(old.from_head(read.target))
 }
 
-// What place 1 makes of the link that it read, of how curr stands to the address, and of whether own may be used.
-fn scan(sizes: Sizes, old: Record, read: LinkRead, order: Compared, own_usable: bool) -> Acted
-    requires { StandsAt 1 old }
-    ensures { (m : Memory) → (p : spec.Process) →
-        read ≡ link_read (sized sizes m) old table.curr →
-        order ≡ compared_of m.addresses (cond read.accepted old.lost.curr head_node) old.kept.address →
-        own_usable ≡ usable (in_use (sized sizes m)) old table.own →
-        left m result ≡ step (sized sizes m) p old }
+// The end of a search, at the address or past it; succ is the target.
+#[tactic(auto, unfolding(table::specs::Places::search_ends))]
+fn search_ends(links: &[u32], sizes: Sizes, old: Record, target: Node, same: bool) -> Option<Record>
+    ensures { (addresses deleters : List ℕ) → same ≡ equal addresses old.lost.curr old.kept.address →
+        result ≡ followed (lent_memory addresses links.now deleters sizes) old (search_ends addresses (old ▸ succ≔ target)) }
 {
-    let pending = old.lost.pending;
-    let recovering = old.lost.recovering;
-    let ends = search_ends(
-        recovering,
-        old.lost.curr.0 == old.kept.node.0,
-        old.kept.kind == INSERTS,
-        order.equal,
-        pending,
-    );
-    let passes = read.mark | order.below;
-    let fits = read.accepted & (passes | !recovering | own_usable);
-    let place = answers::pick(read.mark, 2, answers::pick(order.below, 1, ends.place));
-    let answer = answers::pick(passes, pending, ends.answer);
-    let left = old.scans(
-        either(fits, read.target, old.lost.succ),
-        fits & !read.mark & order.below,
-        answers::pick(fits, place, old.lost.place),
-        answers::pick(fits, answer, pending),
-    );
-    answers::judged(fits, sizes, left)
+    if old.lost.recovering {
+        access::usable(links, sizes, old, Field::Own)?;
+        if old.lost.curr == old.kept.node {
+            return Some(old.scans(target, false, 18, TRUE));
+        }
+        return Some(old.found(target, 14));
+    }
+    if old.kept.kind == INSERTS {
+        if same {
+            return Some(old.scans(target, false, 18, FALSE));
+        }
+        return Some(old.found(target, 3));
+    }
+    if same {
+        return Some(old.found(target, 5));
+    }
+    Some(old.scans(target, false, 18, FALSE))
 }
 
-// Place 1: read curr's link; on to the next node, or the search ends. An address is looked at only where the link was accepted.
-pub(crate) fn row_1(addresses: &[u32], links: &[u32], sizes: Sizes, old: Record) -> Acted
-    requires { StandsAt 1 old }
-    ensures { (m : Memory) → (p : spec.Process) → left (links≔ links.now (addresses≔ addresses.now m)) result ≡ step (sized sizes (links≔ links.now (addresses≔ addresses.now m))) p old }
+// Place 1: read curr's link; on to the next node, or the search ends.
+#[tactic(auto, unfolding(table::specs::Places::row, table::specs::Places::place_of, words::specs::LentWords::compared_of))]
+pub(crate) fn row_1(addresses: &[u32], links: &[u32], sizes: Sizes, old: Record) -> Option<Record>
+    ensures { (deleters : List ℕ) → (p : spec.Process) → row_left (lent_memory addresses.now links.now deleters sizes) result ≡
+        row_made (lent_memory addresses.now links.now deleters sizes) p old (row addresses.now (place_of 1) old) }
 {
-    let read = access::read_link(links, sizes, old, Field::Curr);
-    let order = words::compare(
-        addresses,
-        either(read.accepted, old.lost.curr, HEAD),
-        old.kept.address,
-    );
-    scan(
-        sizes,
-        old,
-        read,
-        order,
-        access::usable(links, sizes, old, Field::Own),
-    )
+    let read = access::read_link(links, sizes, old, Field::Curr)?;
+    if read.mark {
+        return Some(old.found(read.target, 2));
+    }
+    match words::compare(addresses, old.lost.curr, old.kept.address) {
+        Ordering::Less => Some(old.scans(read.target, true, 1, old.lost.pending)),
+        Ordering::Equal => search_ends(links, sizes, old, read.target, true),
+        Ordering::Greater => search_ends(links, sizes, old, read.target, false),
+    }
 }
 
 // Place 2: swap pred's link from curr to succ.
-pub(crate) fn row_2(links: &mut [u32], sizes: Sizes, old: Record) -> Acted
-    requires stands_at { StandsAt 2 old }
-    requires within { Within sizes }
-    ensures { (m : Memory) → (p : spec.Process) → left (links≔ links.new m) result ≡ step (sized sizes (links≔ links.old m)) p old }
+#[tactic(auto, unfolding(table::specs::Places::row, table::specs::Places::place_of))]
+pub(crate) fn row_2(links: &mut [u32], sizes: Sizes, old: Record) -> Option<Record>
+    requires { Within sizes }
+    ensures { (addresses deleters : List ℕ) → (p : spec.Process) → row_left (lent_memory addresses links.new deleters sizes) result ≡
+        row_made (lent_memory addresses links.old deleters sizes) p old (row addresses (place_of 2) old) }
 {
     let swap = access::swap_link(
         links,
@@ -139,6 +80,6 @@ pub(crate) fn row_2(links: &mut [u32], sizes: Sizes, old: Record) -> Acted
         Field::Curr,
         Field::Succ,
         false,
-    );
-    answers::swapped(swap, sizes, old, old.unlinked(), old.goes(0))
+    )?;
+    Some(either(swap.wrote, old.unlinked(), old.goes(0)))
 }

@@ -1,10 +1,7 @@
--- A write where the nodes are usable, and none where they are not. Rests on Accessed.
+-- What is written is the link to a usable node. Rests on Accessed.
 use Rattle.std.proofs.Common.{rules}
-use Rattle.list.proofs.Accessed.{link_written_lem, link_stays}
+use Rattle.list.proofs.Accessed.{link_made}
 use Rattle.list.proofs.access.write_link.Goals as goal
 
-pub returns-then-accepted : goal.returns-then-accepted
-returns-then-accepted c m = search (rules, link_written_lem, c.usable-2.ensures, c.usable.ensures)
-
-pub returns-else-accepted : goal.returns-else-accepted
-returns-else-accepted c m = search (rules, link_stays, c.usable-2.ensures, c.usable.ensures)
+pub returns : goal.returns
+returns c a d = search (rules, link_made, c.in_ok-n.ensures a d, c.in_ok-target.ensures a d)
