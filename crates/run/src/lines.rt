@@ -1,7 +1,8 @@
 // Lines: each event read, acted on and told; then what follows the last event.
 ghost use Rattle.std.specs.Prelude.{◌≡◌, ◌≤◌, ◌-◌, length};
 ghost use Rattle.record.specs.Event.{is_accepted};
-ghost use Rattle.words.specs.LentMemory.{lent_memory};
+ghost use Rattle.words.specs.LentMemory.{memory_of, SameTables};
+ghost use Rattle.schedule.specs.EventRead.{event_told};
 ghost use Rattle.text.specs.Put.{put, puts};
 ghost use Rattle.run.specs.declared.Phase.TheVariants.{Acting};
 ghost use Rattle.run.specs.Pieces.{world, run_of, next_number};
@@ -9,20 +10,16 @@ ghost use Rattle.run.specs.PrivatePromises.{LeftOff, Ready, stopped_text, last_t
 
 use crate::{Filled, Phase, Run};
 use list::act;
-use record::{HEAD, Outcome, Record};
-use schedule::{Cursor, EventRead, read_event};
+use record::{Event, HEAD, Outcome, Record, Refusal};
+use schedule::{Cursor, read_event};
 use text::{put_keys, put_line, put_refusal};
-use words::{Sizes, slot};
+use words::{Sizes, Tables, slot};
 
 // Whether an event was accepted. A refused one changes nothing, so that nothing is stored for it.
 fn accepted(outcome: Outcome) -> bool
     ensures { result ≡ is_accepted outcome }
 {
-    match outcome {
-        Outcome::Refused(_) => false,
-        Outcome::Accepted => true,
-        Outcome::Answered(_) => true,
-    }
+    !matches!(outcome, Outcome::Refused(_))
 }
 
 // The number of the next line.
@@ -30,10 +27,7 @@ fn accepted(outcome: Outcome) -> bool
 fn number_after(number: u32) -> u32
     ensures { result ≡ next_number number }
 {
-    if number < 4294967295 {
-        return number + 1;
-    }
-    number
+    number.saturating_add(1)
 }
 
 // The line of a refusal that stops the run, and the first word of the last line.
@@ -49,15 +43,15 @@ fn put_stopped(part: &mut [u8], number: u32, refusal: u8) -> usize
 
 // What follows the last event.
 #[tactic(auto, using(crate::proofs::LastTexts::last_got, crate::proofs::LastTexts::last_end, crate::proofs::LastTexts::last_refused))]
-fn put_last(part: &mut [u8], number: u32, read: EventRead) -> usize
+fn put_last(part: &mut [u8], number: u32, read: Result<Option<(Event, Cursor)>, Refusal>) -> usize
     requires { 64 ≤ length part.old }
-    ensures result_after { put part.new result ≡ puts (last_text number read) part.old }
+    ensures result_after { put part.new result ≡ puts (last_text number (event_told read)) part.old }
     ensures upper_bound { result ≤ 34 }
 {
     match read {
-        EventRead::Got(_, _) => 0,
-        EventRead::End => put_keys(part),
-        EventRead::Refused(refusal) => put_stopped(part, number, refusal),
+        Ok(Some(_)) => 0,
+        Ok(None) => put_keys(part),
+        Err(refusal) => put_stopped(part, number, u8::from(refusal)),
     }
 }
 
@@ -83,19 +77,11 @@ fn filled_to(
 }
 
 // Lines, until the block has no room for one more or the events are over.
-pub(crate) fn fill_lines(
-    file: &[u8],
-    addresses: &mut [u32],
-    links: &mut [u32],
-    deleters: &mut [u32],
-    block: &mut [u8],
-    run: Run,
-) -> Filled
+pub(crate) fn fill_lines(file: &[u8], tables: &mut Tables, block: &mut [u8], run: Run) -> Filled
     requires { run.phase ≡ Acting }
-    ensures left_off { LeftOff file.now
-        (world (lent_memory addresses.old links.old deleters.old run.sizes) run) block.old
-        (world (lent_memory addresses.new links.new deleters.new result.run.sizes) result.run)
-        block.new result.count }
+    ensures same { SameTables tables.old tables.new }
+    ensures left_off { LeftOff file.now (world (memory_of tables.old run.sizes) run) block.old
+        (world (memory_of tables.new result.run.sizes) result.run) block.new result.count }
     ensures count_in_bounds { result.count ≤ length block.new }
     ensures ready { Ready result.run.phase (length block.new - result.count) }
 {
@@ -109,15 +95,14 @@ pub(crate) fn fill_lines(
             return filled_to(at, Phase::Acting, cursor, sizes, number, row);
         }
         let read = read_event(file, cursor);
-        let EventRead::Got(event, next) = read else {
+        let Ok(Some((event, next))) = read else {
             let m = put_last(&mut block[at..], number, read);
             let walking = Phase::Walking(HEAD);
             return filled_to(at + m, walking, cursor, sizes, number, row);
         };
         let process = event.process;
-        let action = event.action;
         let p = slot(process, sizes.processes);
-        let acted = act(addresses, links, deleters, sizes, process, row[p], action);
+        let acted = act(tables, sizes, process, row[p], event.action);
         cursor = next;
         sizes = acted.sizes;
         let advanced = acted.advanced;
