@@ -10,6 +10,7 @@ use native.Mathlib.Omega.{arith}
 use borrow.Author.Tests.{leb-true}
 use Rattle.std.specs.Prelude.{Option, Some, None, option_map}
 use Rattle.basics.proofs.Tests.{by-test}
+use Rattle.record.specs.Record.{◌▸◌, status≔, idle_status}
 use Rattle.record.specs.declared.Node.{Node}
 use Rattle.record.specs.declared.Process.{Process}
 use Rattle.record.specs.declared.Record.{Record}
@@ -23,14 +24,18 @@ use Rattle.table.specs.Places.{read_link, write_link, swap_link, read_deleter, s
 use Rattle.table.specs.Steps.{usable, all_usable, all_used, in_range, turn_in, word_met, own_usable, record_after, field_of, access_of, access_in}
 use Rattle.table.specs.Events.{Left, step, leaving, refused}
 use Rattle.table.proofs.Laws.Ranges.{condition}
+use Rattle.words.specs.LentMemory.{lent_memory}
+use Rattle.words.specs.declared.Sizes.{Sizes}
 use Rattle.words.specs.LentWords.{link_met, SwapLeft, swap_left, swapped, swap_of}
 use Rattle.words.specs.declared.LinkRead.{LinkRead}
 use Rattle.list.specs.Accesses.{◌>>=◌, usable_node, link_read, deleter_read, write_made, swap_made, access_made, link_written, link_swap, deleter_swap}
-use Rattle.list.specs.Rows.{RowLeft, row_left, followed, row_made, row_of}
+use Rattle.list.specs.declared.Acted.{Acted}
+use Rattle.list.specs.Acting.{left}
+use Rattle.list.specs.Rows.{acted_as, turned, RowLeft, row_left, followed, row_made}
 
 -- what a step leaves, of what its row leaves and says
-abbrev pub turned : Record → Outcome → RowLeft → Left
-turned r says x = elim x.after [ Some after ↦ leaving x.memory after says | None ↦ leaving x.memory r (Refused 8) ]
+abbrev leaves : Record → Outcome → RowLeft → Left
+leaves r says x = elim x.after [ Some after ↦ leaving x.memory after says | None ↦ leaving x.memory r (Refused 8) ]
 
 module _ (m : Memory) (p : Process) (r : Record) where
   abbrev used : Node → Bool
@@ -47,7 +52,7 @@ module _ (m : Memory) (p : Process) (r : Record) where
   -- ---- each sort of access, by its tests
 
   follows : (x : Next) (own_used : Bool) → own_used ≡ usable used r own →
-      turned r Accepted (row_left m (followed m r x)) ≡ cond (own_usable used r x) (leaving m (record_after x) Accepted) (refused m r 8)
+      leaves r Accepted (row_left m (followed m r x)) ≡ cond (own_usable used r x) (leaving m (record_after x) Accepted) (refused m r 8)
   unfolding usable_node
   follows (goes s) b is = refl
   follows (uses_own s) true is = rw (← is) refl
@@ -55,27 +60,27 @@ module _ (m : Memory) (p : Process) (r : Record) where
 
   reads : (u t : Bool) (n target : Node) (mark : Bool) (next : Node → Bool → Next) (met : Node → Option LinkRead) →
       met n ≡ cond t (Some (record { target = target; mark = mark })) None →
-      turned r Accepted (row_left m (cond u (Some n) None >>= met >>= λ x. followed m r (next x.target x.mark))) ≡
+      leaves r Accepted (row_left m (cond u (Some n) None >>= met >>= λ x. followed m r (next x.target x.mark))) ≡
       cond ((u && true) && (t && true) && own_usable used r (next target mark)) (leaving m (record_after (next target mark)) Accepted) (refused m r 8)
   reads true true n target mark next met e = rw e (follows (next target mark) _ refl)
   reads true false n target mark next met e = rw e
   reads false t n target mark next met e = refl
 
   tells : (u : Bool) (mine : Node → Bool) (n : Node) (next : Bool → Record) →
-      turned r Accepted (row_left m (option_map next (cond u (Some n) None >>= λ n. Some (mine n)))) ≡
+      leaves r Accepted (row_left m (option_map next (cond u (Some n) None >>= λ n. Some (mine n)))) ≡
       cond ((u && true) && true && true) (leaving m (next (mine n)) Accepted) (refused m r 8)
   tells true mine n next = refl
   tells false mine n next = refl
 
   names : (u : Bool) (n : Node) (after : Record) →
-      turned r Accepted (row_left m (option_map (λ n. after) (cond u (Some n) None))) ≡
+      leaves r Accepted (row_left m (option_map (λ n. after) (cond u (Some n) None))) ≡
       cond ((u && true) && true && true) (leaving m after Accepted) (refused m r 8)
   names true n after = refl
   names false n after = refl
 
   writes : (u t : Bool) (n x node : Node) (word : ℕ) (after : Record) →
       (let x = access_made m.links (cond u (Some n) None >>= λ n. cond t (Some x) None >>= λ to. Some (write_made (set m.links n.0 word))) in
-      turned r Accepted (row_left (links≔ x.words m) (option_map (λ u. after) x.met))) ≡
+      leaves r Accepted (row_left (links≔ x.words m) (option_map (λ u. after) x.met))) ≡
       cond ((u && (t && true)) && true && true) (leaving (written (link_is n word) m) after Accepted) (refused m r 8)
   unfolding written
   writes true true n x node word after = refl
@@ -85,7 +90,7 @@ module _ (m : Memory) (p : Process) (r : Record) where
   swaps : (u s t same : Bool) (n x y : Node) (new found : ℕ) (done lost : Record) (met : Node → SwapLeft) →
       met n ≡ swap_left (cond same (set m.links n.0 new) m.links) (swapped same found) →
       (let x = access_made m.links (cond u (Some n) None >>= λ n. cond s (Some x) None >>= λ from. cond t (Some y) None >>= λ to. Some (swap_made (met n))) in
-      turned r Accepted (row_left (links≔ x.words m) (option_map (λ s. cond s.wrote done lost) x.met))) ≡
+      leaves r Accepted (row_left (links≔ x.words m) (option_map (λ s. cond s.wrote done lost) x.met))) ≡
       cond ((u && (s && (t && true))) && true && true) (leaving (written (cond same (link_is n new) nothing) m) (cond same done lost) Accepted) (refused m r 8)
   unfolding written
   swaps true true true true n x y new found done lost met e = rw e
@@ -97,14 +102,14 @@ module _ (m : Memory) (p : Process) (r : Record) where
   signs : (u same : Bool) (n : Node) (new found : ℕ) (after : Record) (met : Node → SwapLeft) →
       met n ≡ swap_left (cond same (set m.deleters n.0 new) m.deleters) (swapped same found) →
       (let x = access_made m.deleters (cond u (Some n) None >>= λ n. Some (swap_made (met n))) in
-      turned r Accepted (row_left (deleters≔ x.words m) (option_map (λ s. after) x.met))) ≡
+      leaves r Accepted (row_left (deleters≔ x.words m) (option_map (λ s. after) x.met))) ≡
       cond ((u && true) && true && true) (leaving (written (cond same (deleter_is n new) nothing) m) after Accepted) (refused m r 8)
   unfolding written
   signs true true n new found after met e = rw e
   signs true false n new found after met e = rw e
   signs false same n new found after met e = refl
 
-  made : (x : Row) → turned r (access_of p r x).says (row_made m p r x) ≡ worked x
+  made : (x : Row) → leaves r (access_of p r x).says (row_made m p r x) ≡ worked x
   unfolding usable_node link_read deleter_read link_written link_swap deleter_swap link_met swap_of word_met link_at deleter_at written
   made (read_link f next) =
       let word : ℕ = link_at m (node_of r f) in
@@ -127,33 +132,11 @@ module _ (m : Memory) (p : Process) (r : Record) where
 
   -- ---- a step
 
-  abbrev here : Row
-  here = row m.addresses (place_of r.lost.place) r
-
-  ranged_row : in_range r ≡ true → row_made m p r here ≡ row_of m p r
-  unfolding row_of
-  ranged_row e = rw e
-
-  ranged_step : in_range r ≡ true → worked here ≡ step m p r
+  ranged_step : in_range r ≡ true → (n : ℕ) → r.lost.place ≡ n → worked (row m.addresses (place_of n) r) ≡ step m p r
   unfolding step turn_in
-  ranged_step e = rw e
+  ranged_step ranged n at = ap (λ (k : ℕ). worked (row m.addresses (place_of k) r)) (sym at) ∙ rw ranged refl
 
-  out_of_range : in_range r ≡ false → row_of m p r ≡ row_left m None
-  unfolding row_of
-  out_of_range e = rw e
-
-  unranged : (says : Outcome) → in_range r ≡ false → turned r says (row_of m p r) ≡ step m p r
-  unfolding row_of step turn_in
-  unranged says e = rw e
-
-  steps : (x : RowLeft) → x ≡ row_of m p r → turned r (access_in m p r).says x ≡ step m p r
-  steps x is =
-      ap (turned r (access_in m p r).says) is
-      ∙ by-test (in_range r)
-      (λ e. ap (turned r (access_in m p r).says) (sym (ranged_row e)) ∙ made here ∙ ranged_step e)
-      (unranged (access_in m p r).says)
-
-  -- what a row says, past which place and at which
+  -- what a row says
   abbrev says : Place → Outcome
   says l = (access_of p r (row m.addresses l r)).says
 
@@ -172,32 +155,37 @@ module _ (m : Memory) (p : Process) (r : Record) where
       accepts (p0 ∷ p1 ∷ p2 ∷ p3 ∷ p4 ∷ p5 ∷ p6 ∷ p7 ∷ p8 ∷ p9 ∷ p10 ∷ p11 ∷ p12 ∷ p13 ∷ p14 ∷ p15 ∷ p16 ∷ p17 ∷ p18 ∷ []) (p19 ∷ [])
       (refl, (refl, (refl, (refl, (refl, (refl, (refl, (refl, (refl, (refl, (refl, (refl, (refl, (refl, (refl, (refl, (refl, (refl, (refl, tt)))))))))))))))))))
 
-  before : in_range r ≡ true → (r.lost.place ≡ 19 → ⊥) → r.lost.place < 19
-  before ranged h = omega (arith, leb-true r.lost.place 19 (condition r ranged 0))
+-- ---- what the code of a step answers
 
-  answered_at : r.lost.place ≡ 19 → says (place_of r.lost.place) ≡ Answered r.lost.pending
+-- there is no place past the table
+pub past_the_table : (d : Left) (m : Memory) (p : Process) (r : Record) → in_range r ≡ true → 19 < r.lost.place → d ≡ step m p r
+past_the_table d m p r ranged past = absurd (omega (arith, leb-true r.lost.place 19 (condition r ranged 0)))
+
+module _ (sizes : Sizes) (addresses links deleters links' deleters' : List ℕ) (p : Process) (r : Record) (a : Acted) where
+  abbrev lent : Memory
+  lent = lent_memory addresses links deleters sizes
+
+  abbrev lent' : Memory
+  lent' = lent_memory addresses links' deleters' sizes
+
+  turned_is : (after : Option Record) → left lent' (turned sizes r after) ≡ leaves r Accepted (row_left lent' after)
+  turned_is (Some after) = refl
+  turned_is None = refl
+
+  -- a row below 19, from what its code tells of it
+  pub takes : (n : ℕ) (after : Option Record) → a ≡ turned sizes r after →
+      row_left lent' after ≡ row_made lent p r (row addresses (place_of n) r) → in_range r ≡ true → r.lost.place ≡ n → n < 19 →
+      left lent' a ≡ step lent p r
+  takes n after is told ranged at early =
+      ap (left lent') is ∙ turned_is after ∙ ap (leaves r Accepted) told
+      ∙ ap (λ (o : Outcome). leaves r o (row_made lent p r (row addresses (place_of n) r))) (sym (accepted_before lent p r n early))
+      ∙ made lent p r (row addresses (place_of n) r) ∙ ranged_step lent p r ranged n at
+
+  -- the last
+  pub answers : a ≡ acted_as sizes (r ▸ status≔ idle_status) (Answered r.lost.pending) → in_range r ≡ true → r.lost.place ≡ 19 → left lent a ≡ step lent p r
   unfolding row place_of
-  answered_at h = rw h
+  answers is ranged at = ap (left lent) is ∙ made lent p r (row addresses (place_of 19) r) ∙ ranged_step lent p r ranged 19 at
 
-  -- what the code makes of a row that is refused, of one that hands out an answer, and of any other
-  pub refuses : (m' : Memory) → row_left m' None ≡ row_of m p r → leaving m' r (Refused 8) ≡ step m p r
-  refuses m' is = steps (row_left m' None) is
-
-  pub answers : (m' : Memory) (after : Record) → row_left m' (Some after) ≡ row_of m p r → r.lost.place ≡ 19
-      → leaving m' after (Answered r.lost.pending) ≡ step m p r
-  answers m' after is h = rw (← answered_at h) (steps (row_left m' (Some after)) is)
-
-  pub goes_on : (m' : Memory) (after : Record) → row_left m' (Some after) ≡ row_of m p r → (r.lost.place ≡ 19 → ⊥)
-      → leaving m' after Accepted ≡ step m p r
-  goes_on m' after is h =
-      by-test (in_range r)
-      (λ e. rw (← accepted_before r.lost.place (before e h)) (steps (row_left m' (Some after)) is))
-      (λ e. let none : Some after ≡ None = ap (λ (x : RowLeft). x.after) (is ∙ out_of_range e) in cc)
-
-  pub at_place : (n : ℕ) (x : RowLeft) → in_range r ≡ true → r.lost.place ≡ n → x ≡ row_made m p r (row m.addresses (place_of n) r)
-      → x ≡ row_of m p r
-  at_place n x ranged at is =
-      is ∙ ap (λ (k : ℕ). row_made m p r (row m.addresses (place_of k) r)) (sym at) ∙ ranged_row ranged
-
-  pub past_the_table : (x : RowLeft) → in_range r ≡ true → 19 < r.lost.place → x ≡ row_of m p r
-  past_the_table x ranged past = absurd (omega (arith, leb-true r.lost.place 19 (condition r ranged 0)))
+  pub unranged : a ≡ acted_as sizes r (Refused 8) → in_range r ≡ false → left lent a ≡ step lent p r
+  unfolding step turn_in
+  unranged is e = rw (is, e)

@@ -5,10 +5,10 @@ use Rattle.record.specs.declared.Node.{Node}
 use Rattle.record.specs.declared.Process.{Process}
 use Rattle.record.specs.declared.Record.{Record}
 use Rattle.record.specs.declared.Outcome.{Outcome}
+use Rattle.record.specs.declared.Outcome.TheVariants.{Refused, Accepted}
 use Rattle.table.specs.Words.{Memory, links≔, deleters≔, in_use}
-use Rattle.table.specs.Places.{own, Next, goes, uses_own, Row, place_of, row}
+use Rattle.table.specs.Places.{own, Next, goes, uses_own, Row}
 use Rattle.table.specs.Places.{read_link, write_link, swap_link, read_deleter, swap_deleter, write_node, own_record, hand_out}
-use Rattle.table.specs.Steps.{in_range}
 use Rattle.words.specs.LentMemory.{sized}
 use Rattle.words.specs.declared.Sizes.{Sizes}
 use Rattle.list.specs.declared.Acted.{Acted}
@@ -26,6 +26,11 @@ one_more sizes = record { nodes = sizes.nodes; processes = sizes.processes; coun
 
 abbrev pub acted_as : Sizes → Record → Outcome → Acted
 acted_as sizes r outcome = record { advanced = r; sizes = sizes; outcome = outcome }
+
+-- the record after an accepted step, or the old one with refusal 8
+abbrev pub turned : Sizes → Record → Option Record → Acted
+turned sizes r (Some after) = acted_as sizes after Accepted
+turned sizes r None = acted_as sizes r (Refused 8)
 
 -- what a row leaves: the memory, and the record after it; none where the row is refused with 8
 pub record RowLeft : Type 0 where
@@ -53,7 +58,3 @@ row_made m p r (swap_deleter f after) =
 row_made m p r (write_node f after) = row_left m (option_map (λ n. after) (usable_node m r f))
 row_made m p r (own_record after) = row_left m (Some after)
 row_made m p r (hand_out answer after) = row_left m (Some after)
-
--- the row of the place at which a record stands; none where its fields are out of their ranges
-unfoldable pub row_of : Memory → Process → Record → RowLeft
-row_of m p r = cond (in_range r) (row_made m p r (row m.addresses (place_of r.lost.place) r)) (row_left m None)

@@ -1,8 +1,8 @@
 // What an event answers: refused, or accepted. Rests on nothing of this crate but its types.
 ghost use Rattle.std.specs.Prelude.{◌≡◌};
 ghost use Rattle.record.specs.Refusal.{number_of};
-ghost use Rattle.record.specs.declared.Outcome.TheVariants.{Refused, Accepted, Answered};
-ghost use Rattle.list.specs.Rows.{acted_as};
+ghost use Rattle.record.specs.declared.Outcome.TheVariants.{Refused, Accepted};
+ghost use Rattle.list.specs.Rows.{acted_as, turned};
 
 use crate::Acted;
 use record::{Outcome, Record, Refusal};
@@ -30,13 +30,12 @@ pub(crate) fn accepted(sizes: Sizes, after: Record) -> Acted
     }
 }
 
-// The record advanced, and an answer handed out.
-pub(crate) fn handed_out(sizes: Sizes, after: Record, answer: u8) -> Acted
-    ensures { result ≡ acted_as sizes after (Answered answer) }
+// The record after an accepted step; or the old one, where the step is refused with 8.
+pub(crate) fn turned(sizes: Sizes, old: Record, after: Option<Record>) -> Acted
+    ensures { result ≡ turned sizes old after }
 {
-    Acted {
-        advanced: after,
-        sizes,
-        outcome: Outcome::Answered(answer),
+    match after {
+        Some(after) => accepted(sizes, after),
+        None => refused(sizes, old, Refusal::Broken),
     }
 }

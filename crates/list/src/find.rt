@@ -9,7 +9,6 @@ ghost use Rattle.list.specs.Rows.{row_left, row_made};
 use crate::access;
 use crate::access::Field;
 use record::{FALSE, Record, TRUE, either};
-use std::cmp::Ordering;
 use words::Sizes;
 
 // Place 11: read curr's link; curr is the target: on to the next node, or the find ends.
@@ -19,11 +18,10 @@ pub(crate) fn row_11(addresses: &[u32], links: &[u32], sizes: Sizes, old: Record
         row_made (lent_memory addresses.now links.now deleters sizes) p old (row addresses.now (place_of 11) old) }
 {
     let read = access::read_link(links, sizes, old, Field::Curr)?;
-    match words::compare(addresses, read.target, old.kept.address) {
-        Ordering::Less => Some(old.walked(read.target, 11, old.lost.pending)),
-        Ordering::Equal => Some(old.walked(read.target, 12, old.lost.pending)),
-        Ordering::Greater => Some(old.walked(read.target, 19, FALSE)),
-    }
+    let order = words::compare(addresses, read.target, old.kept.address);
+    let place = either(order.is_lt(), 11, either(order.is_eq(), 12, 19));
+    let answer = either(order.is_gt(), FALSE, old.lost.pending);
+    Some(old.walked(read.target, place, answer))
 }
 
 // Place 12: read curr's link.

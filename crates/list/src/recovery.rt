@@ -1,14 +1,16 @@
 // Rows 13 to 17: recovery; rows 18 and 19: the answer. Rests on accesses.
 ghost use Rattle.std.specs.Prelude.{◌≡◌, List, ℕ, ◌<◌, Some};
+ghost use Rattle.record.specs.Record.{◌▸◌, status≔, idle_status};
 ghost use Rattle.record.specs.declared.Process as spec;
+ghost use Rattle.record.specs.declared.Outcome.TheVariants.{Answered};
 ghost use Rattle.table.specs.Words.{Memory, links≔, deleters≔};
 ghost use Rattle.table.specs.Places.{row, place_of};
 ghost use Rattle.words.specs.LentMemory.{lent_memory};
-ghost use Rattle.list.specs.Rows.{row_left, row_made};
+ghost use Rattle.list.specs.Rows.{row_left, row_made, acted_as};
 
-use crate::access;
 use crate::access::Field;
-use record::{DELETES, FAIL, INSERTS, NO_ANSWER, NO_NODE, Process, Record};
+use crate::{Acted, access};
+use record::{DELETES, FAIL, INSERTS, NO_ANSWER, NO_NODE, Outcome, Process, Record};
 use words::Sizes;
 
 // Place 13: read own record: it has its answer, it searches, it looks at its node, or it fails.
@@ -94,9 +96,12 @@ pub(crate) fn row_18(old: Record) -> Record
 }
 
 // Place 19: the pending answer is handed out.
-#[tactic(auto, unfolding(table::specs::Places::row, table::specs::Places::place_of))]
-pub(crate) fn row_19(old: Record) -> Record
-    ensures { (m : Memory) → (p : spec.Process) → row_left m (Some result) ≡ row_made m p old (row m.addresses (place_of 19) old) }
+pub(crate) fn row_19(sizes: Sizes, old: Record) -> Acted
+    ensures { result ≡ acted_as sizes (old ▸ status≔ idle_status) (Answered old.lost.pending) }
 {
-    old.rests()
+    Acted {
+        advanced: old.rests(),
+        sizes,
+        outcome: Outcome::Answered(old.lost.pending),
+    }
 }

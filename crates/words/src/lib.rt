@@ -189,14 +189,14 @@ pub fn link_met(links: &[u32], sizes: Sizes, n: Node) -> Option<LinkRead>
 pub fn in_range(old: Record) -> bool
     ensures { result ≡ in_range old }
 {
+    let place = old.lost.place;
     let pending = old.lost.pending;
     let kind = old.kept.kind;
     let ranged = (kind <= 2) & (pending <= 3) & (old.kept.result <= 2);
-    match old.lost.place {
+    match place {
         0..=2 => ranged & (kind != FINDS),
         3..=17 => ranged,
-        18 => ranged & (pending != NO_ANSWER) & (pending != FAIL),
-        19 => ranged & (pending != NO_ANSWER),
+        18..=19 => ranged & (pending != NO_ANSWER) & ((place == 19) | (pending != FAIL)),
         _ => false,
     }
 }
