@@ -3,7 +3,7 @@
 use Prim.Native.Nat.{ℕ, suc, ◌-◌, ◌<◌, ◌≤◌}
 use mathlib.Core.List.{List, [], ◌∷◌}
 use mathlib.Core.Bool.{Bool, true, false, false≢true}
-use mathlib.Core.Path.{◌≡◌, refl, ap, sym, ◌∙◌, subst}
+use mathlib.Core.Path.{◌≡◌, refl, ap, sym, ◌∙◌}
 use native.Mathlib.Omega.{arith}
 use borrow.Author.Tests.{lt-ltb, ltb-true, ltb-false}
 use lib.ListN.{length, length-append, get_or, set}
@@ -11,7 +11,6 @@ use lib.Seq.{set-get_or}
 use Rattle.std.specs.Prelude.{Option, Some, None, Result, Ok, Err}
 use Rattle.record.specs.Record.{fresh_record, process}
 use Rattle.record.specs.declared.Refusal.{Refusal}
-use Rattle.record.specs.Refusal.{number_of}
 use Rattle.record.specs.Event.{is_accepted}
 use Rattle.record.specs.declared.Node.{Node}
 use Rattle.record.specs.declared.Address.{Address}
@@ -52,7 +51,7 @@ use Rattle.run.specs.declared.Run.{Run}
 use Rattle.run.specs.Filling.{piece, nothing, stop, fill_from}
 use Rattle.run.specs.Pieces.{World, world, run_of, memory_of, table_of, in_phase, next_number, went_on, to_walk}
 use Rattle.run.specs.Pieces.{event_next, put_ahead, address_next, next_piece, fills, refusing, start_of, begins}
-use Rattle.run.specs.PrivatePromises.{begun, Ready, HasPiece, stops_at, PutsNext, stopped_text, last_text}
+use Rattle.run.specs.PrivatePromises.{Ready, HasPiece, stops_at, PutsNext, stopped_text, last_text}
 use Rattle.run.proofs.Fills.{FillsTo, full, at_end}
 
 -- ---- the record of an event's process, in a row of 64

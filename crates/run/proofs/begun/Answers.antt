@@ -1,6 +1,6 @@
 -- A header that was read, whether or not the tables were made fresh, and one that was refused. Rests on Steps.
 use Rattle.std.proofs.Common.{rules, ◌≡◌, ap, ◌∙◌}
-use Rattle.std.specs.Prelude.{Result, Ok, Err}
+use Rattle.std.specs.Prelude.{Result, Err}
 use Rattle.record.specs.declared.Refusal.{Refusal}
 use Rattle.record.specs.Refusal.{number_of}
 use Rattle.words.specs.LentMemory.{memory_of}
@@ -27,8 +27,8 @@ returns-in_err-sizes-clause-left c =
     let is : c.from_residual-in_err-sizes.result ≡ Err c.in_err-sizes.field-0.0 = search rules in
     ap (λ (x : Result Run Refusal). world m' (begun x)) is
     ∙ rw c.in_err-sizes.was at
-      (begin_got c.args.file.now (memory_of c.args.tables.now unstated) m' header c.in_ok-header.cursor c.fresh_tables.result
-        (header_is _ _ _ _ c.start.ensures c.read_header.ensures c.in_ok-header.was) c.fresh_tables.ensures.left)
+    (begin_got c.args.file.now (memory_of c.args.tables.now unstated) m' header c.in_ok-header.cursor c.fresh_tables.result
+    (header_is _ _ _ _ c.start.ensures c.read_header.ensures c.in_ok-header.was) c.fresh_tables.ensures.left)
 
 pub returns-clause-left : goal.returns-clause-left
 unfolding start_of
@@ -37,5 +37,5 @@ returns-clause-left c =
     let m' = memory_of c.fresh_tables.new.tables (fresh_sizes header.nodes header.processes) in
     rw c.fresh.ensures
     (rw c.in_ok-sizes.was at
-      (begin_got c.args.file.now (memory_of c.args.tables.now unstated) m' header c.in_ok-header.cursor c.fresh_tables.result
-        (header_is _ _ _ _ c.start.ensures c.read_header.ensures c.in_ok-header.was) c.fresh_tables.ensures.left))
+    (begin_got c.args.file.now (memory_of c.args.tables.now unstated) m' header c.in_ok-header.cursor c.fresh_tables.result
+    (header_is _ _ _ _ c.start.ensures c.read_header.ensures c.in_ok-header.was) c.fresh_tables.ensures.left))
