@@ -11,6 +11,7 @@ use lib.Seq.{set-get_or}
 use Rattle.std.specs.Prelude.{Option, Some, None, Result, Ok, Err}
 use Rattle.record.specs.Record.{fresh_record, process}
 use Rattle.record.specs.declared.Refusal.{Refusal}
+use Rattle.record.specs.Refusal.{number_of}
 use Rattle.record.specs.Event.{is_accepted}
 use Rattle.record.specs.declared.Node.{Node}
 use Rattle.record.specs.declared.Address.{Address}
@@ -42,7 +43,7 @@ use Rattle.chain.specs.Walking.{ahead_from}
 use Rattle.chain.specs.declared.Ahead.{Ahead}
 use Rattle.chain.specs.declared.Ahead.TheVariants as ahead
 use Rattle.chain.proofs.Walks.{Stops, told_next, told_stops}
-use Rattle.text.specs.Text.{line, decimal, space, newline}
+use Rattle.text.specs.Text.{line, keys_word, decimal, space, newline}
 use Rattle.text.specs.Put.{put, put_into}
 use Rattle.text.proofs.Lengths.{line_some}
 use Rattle.run.specs.declared.Phase.{Phase}
@@ -124,6 +125,15 @@ module _ (m : Memory) (run : Run) (acting : run.phase ≡ Acting) (row : length 
       ∙ ap (λ (y : Leaves). piece (line run.number y.outcome) (went_on w next y.after)) (event_at_lem (table_of w) row e at slot)
       ∙ goes_on
 
+pub end_next : (file : List ℕ) (w : World) → event_at file w.run.cursor ≡ read.End → event_next file w ≡ piece keys_word (to_walk w)
+unfolding event_next
+end_next file w h = rw (h, event_next)
+
+pub refused_next : (file : List ℕ) (w : World) (n : ℕ) → event_at file w.run.cursor ≡ read.Refused n
+    → event_next file w ≡ piece (stopped_text w.run.number n) (to_walk w)
+unfolding event_next stopped_text
+refused_next file w n h = rw (h, event_next)
+
 -- what follows the last event
 abbrev pub Answer : Type 0
 Answer = Result (Option (Event × Cursor)) Refusal
@@ -133,10 +143,10 @@ NotGot r = (x : Event × Cursor) → r ≡ Ok (Some x) → ⊥
 
 last_next : (file : List ℕ) (w : World) (r : Answer) → event_at file w.run.cursor ≡ event_told r → NotGot r
     → event_next file w ≡ piece (last_text w.run.number (event_told r)) (to_walk w)
-unfolding event_next last_text stopped_text
+unfolding last_text
 last_next file w (Ok (Some x)) is h = absurd (h x refl)
-last_next file w (Ok None) is h = rw (is, event_next)
-last_next file w (Err refusal) is h = rw (is, event_next)
+last_next file w (Ok None) is h = end_next file w is
+last_next file w (Err refusal) is h = refused_next file w (number_of refusal) is
 
 pub last_piece : (file : List ℕ) (w : World) (r : Answer) → w.run.phase ≡ Acting → event_told r ≡ event_at file w.run.cursor → NotGot r
     → next_piece file w ≡ piece (last_text w.run.number (event_told r)) (to_walk w)
