@@ -78,10 +78,6 @@ pub acting_piece : (file : List ℕ) (w : World) → w.run.phase ≡ Acting → 
 unfolding next_piece
 acting_piece file w e = rw e
 
--- a run that acts is the run of its parts
-pub acting_run : (run : Run) → run.phase ≡ Acting → run_of Acting run.cursor run.sizes run.number run.row ≡ run
-acting_run run h = ap (λ (phase : Phase). run_of phase run.cursor run.sizes run.number run.row) (sym h)
-
 pub got_piece : (file : List ℕ) (w : World) (e : Event) (next : Cursor) → event_at file w.run.cursor ≡ read.Got e next
     → event_next file w ≡ piece (line w.run.number (event (table_of w) e).outcome) (went_on w next (event (table_of w) e).after)
 unfolding event_next

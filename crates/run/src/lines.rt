@@ -5,15 +5,15 @@ ghost use Rattle.words.specs.LentMemory.{memory_of, SameTables};
 ghost use Rattle.schedule.specs.EventRead.{event_told};
 ghost use Rattle.text.specs.Put.{put, puts};
 ghost use Rattle.run.specs.declared.Phase.TheVariants.{Acting};
-ghost use Rattle.run.specs.Pieces.{world, run_of, next_number};
+ghost use Rattle.run.specs.Pieces.{world, next_number};
 ghost use Rattle.run.specs.PrivatePromises.{LeftOff, Ready, stopped_text, last_text};
 
 use crate::{Filled, Phase, Run};
 use list::act;
-use record::{Event, HEAD, Outcome, Record, Refusal};
+use record::{Event, HEAD, Outcome, Refusal};
 use schedule::{Cursor, read_event};
 use text::{put_keys, put_line, put_refusal};
-use words::{Sizes, Tables, slot};
+use words::{Tables, slot};
 
 // Whether an event was accepted. A refused one changes nothing, so that nothing is stored for it.
 fn accepted(outcome: Outcome) -> bool
@@ -55,29 +55,8 @@ fn put_last(part: &mut [u8], number: u32, read: Result<Option<(Event, Cursor)>, 
     }
 }
 
-// So many bytes filled, and the run of these parts to go on with.
-fn filled_to(
-    count: usize,
-    phase: Phase,
-    cursor: Cursor,
-    sizes: Sizes,
-    number: u32,
-    row: [Record; 64],
-) -> Filled
-    ensures { result ≡ record { count = count; run = run_of phase cursor sizes number row } }
-{
-    let run = Run {
-        phase,
-        cursor,
-        sizes,
-        number,
-        row,
-    };
-    Filled { count, run }
-}
-
 // Lines, until the block has no room for one more or the events are over.
-pub(crate) fn fill_lines(file: &[u8], tables: &mut Tables, block: &mut [u8], run: Run) -> Filled
+pub(crate) fn fill_lines(file: &[u8], tables: &mut Tables, block: &mut [u8], mut run: Run) -> Filled
     requires { run.phase ≡ Acting }
     ensures same { SameTables tables.old tables.new }
     ensures left_off { LeftOff file.now (world (memory_of tables.old run.sizes) run) block.old
@@ -85,32 +64,25 @@ pub(crate) fn fill_lines(file: &[u8], tables: &mut Tables, block: &mut [u8], run
     ensures count_in_bounds { result.count ≤ length block.new }
     ensures ready { Ready result.run.phase (length block.new - result.count) }
 {
-    let mut row = run.row;
-    let mut cursor = run.cursor;
-    let mut sizes = run.sizes;
-    let mut number = run.number;
     let mut at: usize = 0;
     loop {
         if block.len() - at < 64 {
-            return filled_to(at, Phase::Acting, cursor, sizes, number, row);
+            return Filled { count: at, run };
         }
-        let read = read_event(file, cursor);
+        let read = read_event(file, run.cursor);
         let Ok(Some((event, next))) = read else {
-            let m = put_last(&mut block[at..], number, read);
-            let walking = Phase::Walking(HEAD);
-            return filled_to(at + m, walking, cursor, sizes, number, row);
+            let m = put_last(&mut block[at..], run.number, read);
+            let run = run.in_phase(Phase::Walking(HEAD));
+            return Filled { count: at + m, run };
         };
-        let process = event.process;
-        let p = slot(process, sizes.processes);
-        let acted = act(tables, sizes, process, row[p], event.action);
-        cursor = next;
-        sizes = acted.sizes;
-        let advanced = acted.advanced;
-        let outcome = acted.outcome;
-        if accepted(outcome) {
-            row[p] = advanced;
+        let p = slot(event.process, run.sizes.processes);
+        let acted = act(tables, run.sizes, event.process, run.row[p], event.action);
+        run.cursor = next;
+        run.sizes = acted.sizes;
+        if accepted(acted.outcome) {
+            run.row[p] = acted.advanced;
         }
-        at = at + put_line(&mut block[at..], number, outcome);
-        number = number_after(number);
+        at += put_line(&mut block[at..], run.number, acted.outcome);
+        run.number = number_after(run.number);
     }
 }
