@@ -59,5 +59,5 @@ pub fn act(
         process,
         before: record,
     };
-    actor.does(addresses, links, deleters, action)
+    actor.does(tables, action)
 }
