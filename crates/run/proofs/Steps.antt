@@ -21,13 +21,12 @@ use Rattle.record.specs.declared.Action.{Action}
 use Rattle.record.specs.declared.Record.{Record}
 use Rattle.record.specs.declared.Outcome.{Outcome}
 use Rattle.record.specs.declared.Outcome.TheVariants as outcome
-use Rattle.table.specs.Words.{Memory, addresses≔, links≔}
+use Rattle.table.specs.Words.{Memory}
 use Rattle.table.specs.Events.{State, Left, leaving, act, event, stored, record_in, Leaves}
 use Rattle.table.proofs.Laws.Events.{refused_act_changes_nothing}
 use Rattle.table.proofs.Laws.Fitting.{limits}
 use Rattle.table.proofs.Laws.Meets.{event_by_slot}
 use Rattle.words.specs.LentMemory.{sized}
-use Rattle.words.specs.declared.Sizes.{Sizes}
 use Rattle.words.specs.LentWords.{slot_of}
 use Rattle.list.specs.Acting.{left}
 use Rattle.list.specs.declared.Acted.{Acted}
@@ -39,7 +38,8 @@ use Rattle.schedule.specs.HeaderRead.{header_told}
 use Rattle.schedule.specs.HeaderRead as header
 use Rattle.schedule.specs.Cursors.{start, header_at, event_at}
 use Rattle.fresh.specs.Fresh.{Made, tables_left, fresh_sizes, fresh_tables}
-use Rattle.chain.specs.Walking.{ahead_from}
+use Rattle.chain.specs.Walking.{memory_with, ahead_from}
+use Rattle.chain.specs.declared.Chain.{Chain}
 use Rattle.chain.specs.declared.Ahead.{Ahead}
 use Rattle.chain.specs.declared.Ahead.TheVariants as ahead
 use Rattle.chain.proofs.Walks.{Stops, told_next, told_stops}
@@ -232,9 +232,9 @@ still_comes room Over told ready = absurd (false≢true (sym told))
 -- ---- the pieces that no event puts
 
 module _ (part left : List ℕ) (count : ℕ) where
-  pub refusal_put : (addresses links : List ℕ) (sizes : Sizes) (phase : Phase) (number : ℕ) → phase ≡ Refusing number
-      → put left count ≡ put_into (line 0 (outcome.Refused number)) part → PutsNext addresses links sizes phase part left count Over
-  refusal_put addresses links sizes phase number is placed file m cursor n row = record {
+  pub refusal_put : (chain : Chain) (phase : Phase) (number : ℕ) → phase ≡ Refusing number
+      → put left count ≡ put_into (line 0 (outcome.Refused number)) part → PutsNext chain phase part left count Over
+  refusal_put chain phase number is placed file m cursor n row = record {
     bytes = line 0 (outcome.Refused number);
     comes = refusal_piece file _ number is;
     some = line_some 0 (outcome.Refused number);
@@ -242,10 +242,9 @@ module _ (part left : List ℕ) (count : ℕ) where
     ready = λ room. tt;
   }
 
-  module _ (addresses links : List ℕ) (sizes : Sizes) (n : Node) (x : Ahead)
-      (told : (m : Memory) → x ≡ ahead_from (sized sizes (links≔ links (addresses≔ addresses m))) n) where
+  module _ (chain : Chain) (n : Node) (x : Ahead) (told : (m : Memory) → x ≡ ahead_from (memory_with chain m) n) where
     pub address_put : (next : Node) (a : Address) → x ≡ ahead.Next next a → put left count ≡ put_into (space ∷ decimal a.0) part
-        → PutsNext addresses links sizes (Walking n) part left count (Walking next)
+        → PutsNext chain (Walking n) part left count (Walking next)
     address_put next a is placed file m cursor number row = record {
       bytes = space ∷ decimal a.0;
       comes = onto_piece _ file n refl x (told m) next a is;
@@ -254,7 +253,7 @@ module _ (part left : List ℕ) (count : ℕ) where
       ready = λ room. tt;
     }
 
-    pub newline_put : Stops x → put left count ≡ put_into (newline ∷ []) part → PutsNext addresses links sizes (Walking n) part left count Over
+    pub newline_put : Stops x → put left count ≡ put_into (newline ∷ []) part → PutsNext chain (Walking n) part left count Over
     newline_put stops placed file m cursor number row = record {
       bytes = newline ∷ [];
       comes = end_piece _ file n refl x (told m) stops;

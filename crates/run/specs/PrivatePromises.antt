@@ -5,7 +5,8 @@ use Rattle.record.specs.declared.Outcome.TheVariants as outcome
 use Rattle.record.specs.declared.Refusal.{Refusal}
 use Rattle.record.specs.Refusal.{number_of}
 use Rattle.table.specs.Words.{Memory, addresses≔, links≔}
-use Rattle.words.specs.declared.Sizes.{Sizes}
+use Rattle.chain.specs.declared.Chain.{Chain}
+use Rattle.chain.specs.Walking.{memory_with}
 use Rattle.schedule.specs.declared.Cursor.{Cursor}
 use Rattle.schedule.specs.EventRead.{EventRead}
 use Rattle.schedule.specs.EventRead as read
@@ -70,10 +71,10 @@ pub record PutNext (file : List ℕ) (w : World) (part left : List ℕ) (count :
   pub ready : (room : ℕ) → Ready phase room
 
 -- so it is, from a phase on, whatever the file, the rest of the memory and of the run: the walk along the chain reads addresses and links
-abbrev pub PutsNext : (addresses links : List ℕ) → Sizes → Phase → (part left : List ℕ) → (count : ℕ) → (after : Phase) → Type 0
-PutsNext addresses links sizes phase part left count after =
+abbrev pub PutsNext : Chain → Phase → (part left : List ℕ) → (count : ℕ) → (after : Phase) → Type 0
+PutsNext chain phase part left count after =
     (file : List ℕ) (m : Memory) (cursor : Cursor) (number : ℕ) (row : List Record) →
-    PutNext file (world (links≔ links (addresses≔ addresses m)) (run_of phase cursor sizes number row)) part left count after
+    PutNext file (world (memory_with chain m) (run_of phase cursor chain.sizes number row)) part left count after
 
 -- what follows the last event: the line of a refusal that stops the run, and the first word of the last line
 unfoldable pub stopped_text : (number refusal : ℕ) → List ℕ

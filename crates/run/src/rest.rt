@@ -4,10 +4,9 @@ ghost use Rattle.run.specs.declared.Phase.TheVariants.{Walking};
 ghost use Rattle.run.specs.PrivatePromises.{FilledOn, Ready, HasPiece, PutsNext, stops_at};
 
 use crate::{Filled, Phase, Run};
-use chain::{Ahead, onward};
+use chain::{Ahead, Chain};
 use record::Node;
 use text::{put_address, put_newline, put_refusal};
-use words::Sizes;
 
 // A piece that was put: its bytes, and the phase after it.
 #[derive(Clone, Copy)]
@@ -17,11 +16,11 @@ struct Added {
 }
 
 // The next address of the last line, or its end.
-fn put_ahead(addresses: &[u32], links: &[u32], sizes: Sizes, part: &mut [u8], node: Node) -> Added
-    ensures puts_next { PutsNext addresses.now links.now sizes (Walking node) part.old part.new result.count result.phase }
+fn put_ahead(chain: &Chain, part: &mut [u8], node: Node) -> Added
+    ensures puts_next { PutsNext chain.now (Walking node) part.old part.new result.count result.phase }
     ensures count_bound { result.count ≤ 30 }
 {
-    let ahead = onward(addresses, links, sizes, node);
+    let ahead = chain.onward(node);
     let Ahead::Next(onto, address) = ahead else {
         let count = put_newline(part);
         return Added {
@@ -38,9 +37,9 @@ fn put_ahead(addresses: &[u32], links: &[u32], sizes: Sizes, part: &mut [u8], no
 
 // The next piece, by the phase.
 #[tactic(auto, using(crate::proofs::Steps::refusal_put))]
-fn put_next(addresses: &[u32], links: &[u32], sizes: Sizes, part: &mut [u8], phase: Phase) -> Added
+fn put_next(chain: &Chain, part: &mut [u8], phase: Phase) -> Added
     requires { HasPiece phase }
-    ensures puts_next { PutsNext addresses.now links.now sizes phase part.old part.new result.count result.phase }
+    ensures puts_next { PutsNext chain.now phase part.old part.new result.count result.phase }
     ensures count_bound { result.count ≤ 30 }
 {
     match phase {
@@ -51,7 +50,7 @@ fn put_next(addresses: &[u32], links: &[u32], sizes: Sizes, part: &mut [u8], pha
                 phase: Phase::Over,
             }
         }
-        Phase::Walking(node) => put_ahead(addresses, links, sizes, part, node),
+        Phase::Walking(node) => put_ahead(chain, part, node),
         Phase::Acting | Phase::Over => Added { count: 0, phase },
     }
 }
@@ -79,7 +78,11 @@ pub(crate) fn fill_rest(
     ensures filled_on { FilledOn addresses.now links.now run block.old from result.run block.new result.count }
     ensures count_in_bounds { result.count ≤ length block.new }
 {
-    let sizes = run.sizes;
+    let chain = Chain {
+        addresses,
+        links,
+        sizes: run.sizes,
+    };
     let mut at = from;
     let mut phase = run.phase;
     loop {
@@ -87,7 +90,7 @@ pub(crate) fn fill_rest(
             let run = run.in_phase(phase);
             return Filled { count: at, run };
         }
-        let next = put_next(addresses, links, sizes, &mut block[at..], phase);
+        let next = put_next(&chain, &mut block[at..], phase);
         at += next.count;
         phase = next.phase;
     }

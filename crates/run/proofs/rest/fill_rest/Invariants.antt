@@ -14,12 +14,12 @@ pub record LoopKeeps (block block₀ at : ℕ) (R S : Type 0) : Type 0 where
   pub ready : R
   pub reached : S
 
-abbrev pub invariant-loop-sizes : goal.invariant-loop-sizes
-invariant-loop-sizes l =
+abbrev pub invariant-loop-chain : goal.invariant-loop-chain
+invariant-loop-chain l =
     LoopKeeps (length l.block) (length l.fn.block) l.at (Ready l.phase (length l.block - l.at))
     ((file : List ℕ) (m : Memory) (turns : ℕ) → length l.fn.block - l.initial.at < turns
     → FillsTo (next_piece file) (world (links≔ l.links (addresses≔ l.addresses m)) (phase≔ l.phase l.fn.run)) l.block l.at
     (fill_from (next_piece file) turns (world (links≔ l.links (addresses≔ l.addresses m)) l.fn.run) l.fn.block l.initial.at))
 
-abbrev pub decreases-loop-sizes : goal.decreases-loop-sizes
-decreases-loop-sizes l = length l.block - l.at
+abbrev pub decreases-loop-chain : goal.decreases-loop-chain
+decreases-loop-chain l = length l.block - l.at
