@@ -1,4 +1,3 @@
-pub mod LentPart
 pub mod Pieces
 pub mod RecordArray
 pub mod ActsInRow
