@@ -1,6 +1,6 @@
 -- What each turn of `read_number` does to what is left to read, and that the gathered groups make the number. Rests on Numbers and Gathering.
 use Prim.Native.Nat.{ℕ, zero, suc, ◌+◌, ◌-◌, ◌<◌, ◌≤◌}
-use mathlib.Core.Bool.{Bool, true, false, cond, ◌&&◌, ◌||◌, and-false}
+use mathlib.Core.Bool.{Bool, true, false, cond, ◌&&◌, ◌||◌}
 use mathlib.Core.List.{List, [], ◌∷◌, ◌++◌}
 use mathlib.Core.Path.{◌≡◌, refl, ap, sym, ◌∙◌}
 use native.Mathlib.Omega.{arith}
@@ -11,11 +11,9 @@ use mir.Syntax.{w8}
 use mir.Val.{Fits}
 use lib.ListN.{length, take, drop, get_or, set, length-set, length-drop, drop_of_length-le}
 use lib.Seq.{drop-cons, take-suc-set, set_split, get_or-set_same, get_or-set_other, get_or-drop}
-use Rattle.numbers.specs.declared.NumberRead.{NumberRead}
-use Rattle.numbers.specs.declared.NumberRead.TheVariants.{Got, Refused}
 use Rattle.numbers.specs.Numbers.{Read, got, stops, ◌then◌, lowest, more_groups, read_number}
 use Rattle.numbers.specs.Gathering.{Groups, summed, summed_with, judged}
-use Rattle.numbers.specs.ReadAt.{place_in, number_read, number_at}
+use Rattle.numbers.specs.ReadAt.{NumberRead, Refused, place_in, number_read, number_at}
 
 -- ---- what is left to read
 
@@ -124,32 +122,6 @@ summed_five (a ∷ b ∷ []) h = absurd (omega arith)
 summed_five (a ∷ b ∷ c ∷ []) h = absurd (omega arith)
 summed_five (a ∷ b ∷ c ∷ d ∷ []) h = absurd (omega arith)
 summed_five (a ∷ b ∷ c ∷ d ∷ e ∷ f ∷ groups) h = absurd (omega arith)
-
--- ---- the groups judged
-
--- no group of zero stands last after another
-abbrev pub NoZeroLast : List ℕ → (last : ℕ) → Type 0
-NoZeroLast groups last = (ltb 0 last && eqb (get_or groups last 0) 0) ≡ false
-
-module _ (groups : List ℕ) (last : ℕ) where
-  pub only_group : last ≤ 0 → NoZeroLast groups last
-  only_group h = rw (le-ltb 0 last h)
-
-  pub last_not_zero : eqb (get_or groups last 0) 0 ≡ false → NoZeroLast groups last
-  last_not_zero e = rw e (and-false (ltb 0 last))
-
-module _ (groups : List ℕ) (last next : ℕ) where
-  pub zero_last : 0 < last → eqb (get_or groups last 0) 0 ≡ true → Refused 6 ≡ judged groups last next
-  unfolding judged
-  zero_last h e = rw (lt-ltb 0 last h, e)
-
-  pub fifth_above : NoZeroLast groups last → 15 < get_or groups 4 0 → Refused 6 ≡ judged groups last next
-  unfolding judged
-  fifth_above e h = rw (e, lt-ltb 15 (get_or groups 4 0) h)
-
-  pub number_made : (n : ℕ) → NoZeroLast groups last → get_or groups 4 0 ≤ 15 → n ≡ summed groups → Got n next ≡ judged groups last next
-  unfolding judged
-  number_made n e h made = rw (e, le-ltb 15 (get_or groups 4 0) h, made)
 
 -- ---- the turns of the loop
 
@@ -270,3 +242,6 @@ pub group_more : (bytes groups : List ℕ) (count next : ℕ) (number : Read ℕ
 group_more bytes groups count next number g few there more fits =
     one_gathered count groups (get_or bytes next 0 - 128) few (omega (arith, fits.fits)) g
     (sym (gathered bytes groups count next few g.five there more) ∙ g.whole)
+
+-- what the loop begins with, and its ways out
+pub ruleset ways_out = (none_gathered, byte_missing, last_judged, no_last_group)

@@ -4,10 +4,8 @@ use mathlib.Core.List.{List}
 use mathlib.Core.Path.{◌≡◌, refl, ap, sym, ◌∙◌}
 use native.Mathlib.Omega.{arith}
 use lib.ListN.{length, drop, length-drop}
-use Rattle.numbers.specs.declared.NumberRead.{NumberRead}
-use Rattle.numbers.specs.declared.NumberRead.TheVariants.{Got, Refused}
 use Rattle.numbers.specs.Numbers.{Read, got, stops, read_number}
-use Rattle.numbers.specs.ReadAt.{place_in, number_read, number_at}
+use Rattle.numbers.specs.ReadAt.{NumberRead, Got, Refused, place_in, number_read, number_at}
 use Rattle.numbers.proofs.Follows.{Takes, number_takes, left_follows}
 
 -- the place of the bytes from a place on

@@ -1,8 +1,7 @@
 -- What the number reader makes of the groups that it gathered; no public promise rests on it. Rests on ReadAt.
 use Rattle.std.specs.Prelude.{cond, ◌&&◌, List, [], ◌∷◌, ℕ, ◌+◌, ◌*◌, ◌<◌, ltb, eqb, get_or}
-use Rattle.numbers.specs.declared.NumberRead.{NumberRead}
 use Rattle.numbers.specs.Numbers.{got, stops}
-use Rattle.numbers.specs.ReadAt.{number_read}
+use Rattle.numbers.specs.ReadAt.{NumberRead, number_read}
 
 -- "groups of seven bits"
 abbrev pub Groups : List ℕ → Type 0

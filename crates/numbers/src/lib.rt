@@ -3,22 +3,17 @@
 #![tactic(auto)]
 
 ghost use Rattle.std.specs.Prelude.{◌≡◌, ◌+◌, ◌*◌, ◌<◌};
-ghost use Rattle.numbers.specs.ReadAt.{number_at};
+ghost use Rattle.numbers.specs.ReadAt.{number_told, number_at};
 ghost use Rattle.numbers.specs.Gathering.{Groups, summed_with, judged};
 
-// A number with the place after it, or the refusal's number.
-#[derive(Clone, Copy)]
-pub enum NumberRead {
-    Got(u32, usize),
-    Refused(u8),
-}
+use record::Refusal;
 
 // A group before the rest of its number.
 fn lowest(group: u8, rest: u32) -> u32
     requires { (group < 128) × (rest < 33554432) }
     ensures { result ≡ group + 128 * rest }
 {
-    group as u32 + 128 * rest
+    u32::from(group) + 128 * rest
 }
 
 // The number of the first four groups and a fifth.
@@ -27,7 +22,7 @@ fn sum(groups: [u8; 5], fifth: u8) -> u32
     requires fifth_bound { fifth < 16 }
     ensures { result ≡ summed_with groups fifth }
 {
-    let rest = lowest(groups[3], fifth as u32);
+    let rest = lowest(groups[3], u32::from(fifth));
     let rest = lowest(groups[2], rest);
     let rest = lowest(groups[1], rest);
     lowest(groups[0], rest)
@@ -35,32 +30,32 @@ fn sum(groups: [u8; 5], fifth: u8) -> u32
 
 // The groups gathered: a last group of zero after another, or a fifth above 15, is refused.
 #[tactic(auto, using(crate::proofs::Gathers::summed_five), unfolding(crate::specs::Gathering::judged))]
-fn judge(groups: [u8; 5], last: usize, next: usize) -> NumberRead
+fn judge(groups: [u8; 5], last: usize, next: usize) -> Result<(u32, usize), Refusal>
     requires groups { Groups groups }
     requires last_bound { last < 5 }
-    ensures { result ≡ judged groups last next }
+    ensures { number_told result ≡ judged groups last next }
 {
     if 0 < last && groups[last] == 0 {
-        return NumberRead::Refused(6);
+        return Err(Refusal::BadNumber);
     }
     let fifth = groups[4];
     if 15 < fifth {
-        return NumberRead::Refused(6);
+        return Err(Refusal::BadNumber);
     }
     let number = sum(groups, fifth);
-    NumberRead::Got(number, next)
+    Ok((number, next))
 }
 
-// The number that stands at a place.
-pub fn read_number(bytes: &[u8], at: usize) -> NumberRead
-    ensures { result ≡ number_at bytes.now at }
+// The number that stands at a place, with the place after it.
+#[tactic(auto, using(crate::proofs::Gathers::ways_out), unfolding(crate::proofs::Gathers::after_groups))]
+pub fn read_number(bytes: &[u8], at: usize) -> Result<(u32, usize), Refusal>
+    ensures { number_told result ≡ number_at bytes.now at }
 {
     let mut groups = [0u8; 5];
-    let mut count: usize = 0;
     let mut next = at;
-    while count < 5 {
+    for count in 0..5 {
         if bytes.len() <= next {
-            return NumberRead::Refused(4);
+            return Err(Refusal::CutShort);
         }
         let byte = bytes[next];
         next += 1;
@@ -69,7 +64,6 @@ pub fn read_number(bytes: &[u8], at: usize) -> NumberRead
             return judge(groups, count, next);
         }
         groups[count] = byte - 128;
-        count += 1;
     }
-    NumberRead::Refused(6)
+    Err(Refusal::BadNumber)
 }
