@@ -63,11 +63,7 @@ impl Numbers<'_> {
     fn take_up_to(&mut self, most: u32) -> Option<u32>
         ensures { IfSome result (λ number. number ≤ most) }
     {
-        let number = self.take()?;
-        if most < number {
-            return None;
-        }
-        Some(number)
+        self.take().filter(|&number| number <= most)
     }
 
     fn take_byte(&mut self) -> Option<u8> {

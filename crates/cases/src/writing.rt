@@ -57,6 +57,7 @@ impl Block {
     }
 
     // What an event came to.
+    #[tactic(auto, using(crate::proofs::Pieces::put_whole))]
     fn gather_outcome(&mut self, outcome: Outcome)
         requires { self.old.used + outcome_room ≤ last_end }
         ensures value { self.new.used ≡ self.old.used + length (outcome_text outcome) }
@@ -66,6 +67,7 @@ impl Block {
     }
 
     // A number after a space.
+    #[tactic(auto, using(crate::proofs::Pieces::put_whole))]
     fn gather_number(&mut self, number: u32)
         requires { self.old.used + number_room ≤ last_end }
         ensures value { self.new.used ≡ self.old.used + length (space ∷ decimal number) }
@@ -75,6 +77,7 @@ impl Block {
     }
 
     // The end of the line.
+    #[tactic(auto, using(crate::proofs::Pieces::put_whole))]
     fn gather_newline(&mut self)
         requires { self.old.used + 1 ≤ last_end }
         ensures { self.new.used ≡ self.old.used + length (newline ∷ []) }

@@ -1,7 +1,0 @@
--- The piece is put whole. Rests on Pieces.
-use Rattle.std.proofs.Common.{arith}
-use Rattle.cases.proofs.Pieces.{put_whole}
-use Rattle.cases.proofs.writing.Block.gather_newline.Goals as goal
-
-pub returns : goal.returns
-returns c = put_whole _ _ _ _ 65536 _ c.put_newline.ensures.result_after (omega arith) (omega arith)
