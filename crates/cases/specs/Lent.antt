@@ -9,6 +9,6 @@ use Rattle.cases.specs.declared.reading.Case.{Case}
 abbrev pub lent_state : Case → Sizes → State
 lent_state case sizes =
     state_of
-    (lent_memory (take case.addresses.count case.addresses.words) (take case.links.count case.links.words)
-    (take case.deleters.count case.deleters.words) sizes)
-    (take case.row.count case.row.records)
+    (lent_memory (take case.addresses.count case.addresses.items) (take case.links.count case.links.items)
+    (take case.deleters.count case.deleters.items) sizes)
+    (take case.row.count case.row.items)

@@ -47,18 +47,18 @@ impl Trouble {
 // Works an event on what is lent; the records past those that are lent stay.
 fn act(case: &mut Case) -> Said
     ensures acted { leaves_in (lent_state case.new result.sizes) result.outcome ≡ event_in (lent_state case.old case.old.sizes) case.old.event }
-    ensures rest { drop case.old.row.count case.new.row.records ≡ drop case.old.row.count case.old.row.records }
+    ensures rest { drop case.old.row.count case.new.row.items ≡ drop case.old.row.count case.old.row.items }
 {
     let addresses = &mut case.addresses;
     let links = &mut case.links;
     let deleters = &mut case.deleters;
     let row = &mut case.row;
     lent::act_in(
-        &mut addresses.words[0..addresses.count],
-        &mut links.words[0..links.count],
-        &mut deleters.words[0..deleters.count],
+        &mut addresses.items[0..addresses.count],
+        &mut links.items[0..links.count],
+        &mut deleters.items[0..deleters.count],
         case.sizes,
-        &mut row.records[0..row.count],
+        &mut row.items[0..row.count],
         case.event,
     )
 }

@@ -8,18 +8,10 @@ use words::Sizes;
 // The most words or records that are lent.
 const MOST_LENT: u32 = 64;
 
-// The words that are lent of a table: the first of an array.
+// What is lent of a table or of the row: the first of an array.
 #[derive(Drop)]
-pub(crate) struct LentWords {
-    pub(crate) words: [u32; 64],
-    pub(crate) count: usize,
-    ghost count_bound: { count ≤ 64 },
-}
-
-// The records that are lent: the first of an array.
-#[derive(Drop)]
-pub(crate) struct LentRecords {
-    pub(crate) records: [Record; 64],
+pub(crate) struct Lent<T> {
+    pub(crate) items: [T; 64],
     pub(crate) count: usize,
     ghost count_bound: { count ≤ 64 },
 }
@@ -28,10 +20,10 @@ pub(crate) struct LentRecords {
 #[derive(Drop)]
 pub(crate) struct Case {
     pub(crate) sizes: Sizes,
-    pub(crate) addresses: LentWords,
-    pub(crate) links: LentWords,
-    pub(crate) deleters: LentWords,
-    pub(crate) row: LentRecords,
+    pub(crate) addresses: Lent<u32>,
+    pub(crate) links: Lent<u32>,
+    pub(crate) deleters: Lent<u32>,
+    pub(crate) row: Lent<Record>,
     pub(crate) event: Event,
 }
 
@@ -42,8 +34,8 @@ pub(crate) struct Numbers<'a> {
     next: usize,
 }
 
-impl Numbers<'_> {
-    pub(crate) fn new(input: &[u8]) -> Numbers<'_> {
+impl<'a> Numbers<'a> {
+    pub(crate) fn new(input: &'a [u8]) -> Numbers<'a> {
         Numbers { input, next: 0 }
     }
 
@@ -78,14 +70,20 @@ impl Numbers<'_> {
         })
     }
 
-    // The words of a table.
-    fn take_words(&mut self) -> Option<LentWords> {
-        let mut words = [0u32; 64];
+    // What is lent of a table or of the row: how many, and each.
+    fn take_lent<T: Copy, F: Fn(&mut Numbers<'a>) -> Option<T>>(
+        &mut self,
+        blank: T,
+        take: F,
+    ) -> Option<Lent<T>>
+        requires { F.IsAlwaysCallable take }
+    {
+        let mut items = [blank; 64];
         let count = self.take_up_to(MOST_LENT)? as usize;
-        for word in &mut words[..count] {
-            *word = self.take()?;
+        for item in &mut items[..count] {
+            *item = take(self)?;
         }
-        Some(LentWords { words, count })
+        Some(Lent { items, count })
     }
 
     fn take_lost(&mut self) -> Option<Lost> {
@@ -115,16 +113,6 @@ impl Numbers<'_> {
         Some(Record { lost, kept })
     }
 
-    // The records of the row.
-    fn take_row(&mut self) -> Option<LentRecords> {
-        let mut records = [Record::fresh(); 64];
-        let count = self.take_up_to(MOST_LENT)? as usize;
-        for record in &mut records[..count] {
-            *record = self.take_record()?;
-        }
-        Some(LentRecords { records, count })
-    }
-
     fn take_event(&mut self) -> Option<Event> {
         let kind = self.take_up_to(5)?;
         let process = Process(self.take()?);
@@ -143,10 +131,10 @@ impl Numbers<'_> {
     pub(crate) fn take_case(&mut self) -> Option<Case> {
         Some(Case {
             sizes: self.take_sizes()?,
-            addresses: self.take_words()?,
-            links: self.take_words()?,
-            deleters: self.take_words()?,
-            row: self.take_row()?,
+            addresses: self.take_lent(0, Numbers::take)?,
+            links: self.take_lent(0, Numbers::take)?,
+            deleters: self.take_lent(0, Numbers::take)?,
+            row: self.take_lent(Record::fresh(), Numbers::take_record)?,
             event: self.take_event()?,
         })
     }

@@ -6,7 +6,7 @@ ghost use Rattle.streams.specs.Written.{Written};
 ghost use Rattle.cases.specs.Block.{block_bytes, half_block, last_end, outcome_room, number_room, said_room, words_room, record_room, row_room, line_room};
 ghost use Rattle.text.specs.Text.{decimal, newline, outcome_text, space};
 
-use crate::reading::{Case, LentRecords, LentWords};
+use crate::reading::{Case, Lent};
 use lent::Said;
 use record::{Outcome, Record};
 use std::io::Write;
@@ -105,11 +105,11 @@ impl Block {
     }
 
     // The words that are lent of a table.
-    fn gather_table(&mut self, table: &LentWords)
+    fn gather_table(&mut self, table: &Lent<u32>)
         requires { self.old.used + words_room 64 ≤ last_end }
         ensures { self.new.used ≤ self.old.used + words_room 64 }
     {
-        self.gather_words(&table.words[..table.count]);
+        self.gather_words(&table.items[..table.count]);
     }
 
     // The fields of a record, those of its lost part first.
@@ -134,11 +134,11 @@ impl Block {
     }
 
     // The records that are lent.
-    fn gather_row(&mut self, row: &LentRecords)
+    fn gather_row(&mut self, row: &Lent<Record>)
         requires { self.old.used + row_room ≤ last_end }
         ensures { self.new.used ≤ self.old.used + row_room }
     {
-        for &record in &row.records[..row.count] {
+        for &record in &row.items[..row.count] {
             self.gather_record(record);
         }
     }
