@@ -18,22 +18,20 @@ module _ (a b c : Option (List ℕ)) (bytes : List ℕ) (taken : ℕ) (before : 
       let joined : take taken bytes ++ take next rest ≡ take (taken + next) bytes = ap (λ l. take taken bytes ++ take next l) whole ∙ sym (take-add taken next bytes) in
       subst (Appends a c) joined (Appends-trans a b c (take taken bytes) (take next rest) before more)
 
-  -- the next write took so many, and none is written after it
-  pub stopped : (next : ℕ) → Appends b c (take next rest) → Written a c bytes false
-  stopped next more = record {
-    taken = take (taken + next) bytes;
-    left = drop (taken + next) bytes;
-    parts = take-append-drop (taken + next) bytes;
-    grows = taken_on next more;
+  -- so many were taken in all, and none after them
+  ended_at : (n : ℕ) → Appends a c (take n bytes) → Written a c bytes false
+  ended_at n grows = record {
+    taken = take n bytes;
+    left = drop n bytes;
+    parts = take-append-drop n bytes;
+    grows = grows;
     whole = λ e. absurd (false≢true e);
   }
 
+  -- the next write took so many, and none is written after it
+  pub stopped : (next : ℕ) → Appends b c (take next rest) → Written a c bytes false
+  stopped next more = ended_at (taken + next) (taken_on next more)
+
   -- it failed
   pub failed : Keeps b c → Written a c bytes false
-  failed kept = record {
-    taken = take taken bytes;
-    left = drop taken bytes;
-    parts = take-append-drop taken bytes;
-    grows = Appends-kept a b c (take taken bytes) before kept;
-    whole = λ e. absurd (false≢true e);
-  }
+  failed kept = ended_at taken (Appends-kept a b c (take taken bytes) before kept)

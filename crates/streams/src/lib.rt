@@ -22,6 +22,7 @@ pub struct WriteFailed;
 
 // Reads until the space is full, the input ends or a read fails. What stands at the start of the space is what the reader gave, also where a read
 // failed.
+#[tactic(auto, using(crate::proofs::Reading::read_on))]
 pub fn read_in<R: Read>(from: &mut R, space: &mut [u8]) -> Result<usize, ReadFailed>
     ensures counted { IsPrefixLen (count_read result) space.new }
     ensures bytes { Consumes (R.remaining from.old) (R.remaining from.new) (take (count_read result) space.new) }
@@ -39,6 +40,7 @@ pub fn read_in<R: Read>(from: &mut R, space: &mut [u8]) -> Result<usize, ReadFai
 }
 
 // Writes all of the bytes, until a write takes none or fails.
+#[tactic(auto, using(crate::proofs::Writes::taken_on, crate::proofs::Writes::stopped, crate::proofs::Writes::failed))]
 pub fn write_all<W: Write>(to: &mut W, bytes: &[u8]) -> Result<(), WriteFailed>
     ensures { Written (W.contents to.old) (W.contents to.new) bytes.now (is_ok result) }
 {
