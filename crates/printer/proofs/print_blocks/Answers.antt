@@ -10,8 +10,8 @@ loop-filled-init g c = printed_start _ _ _ _ c.begin-run.ensures
 
 pub returns-then-filled-eq0-clause-printed : goal.returns-then-filled-eq0-clause-printed
 returns-then-filled-eq0-clause-printed g c =
-    let so = c.loop-filled.invariant in
-    ended _ _ _ refl c.fill-filled.ensures.count_after so.reached so.numbered c.if-filled-eq0.true c.loop-filled.auto.block
+    ended _ _ _ refl c.fill-filled.ensures.count_after c.loop-filled.invariant.reached c.loop-filled.invariant.numbered c.if-filled-eq0.true
+    c.loop-filled.auto.block
 
 pub returns-then-filled-eq0-clause-written : goal.returns-then-filled-eq0-clause-written
 returns-then-filled-eq0-clause-written g c = λ long.
