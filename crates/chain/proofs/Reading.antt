@@ -18,7 +18,8 @@ use Rattle.words.specs.declared.Sizes.{Sizes}
 use Rattle.words.specs.LentMemory.{lent_memory, sized}
 use Rattle.chain.specs.declared.Ahead.{Ahead}
 use Rattle.chain.specs.declared.Ahead.TheVariants.{Next}
-use Rattle.chain.specs.declared.Keys.TheVariants.{Read, Refused}
+use Rattle.std.specs.Prelude.{Ok, Err}
+use Rattle.record.specs.declared.Refusal.TheVariants.{BadSizes}
 use Rattle.chain.specs.Walking.{ahead_from}
 use Rattle.chain.specs.Keys.{BufferLeft, buffer_left, numbers, read_keys, keys_of}
 use Rattle.chain.proofs.Walks.{Stops, told_next, goes_to, ends_at}
@@ -97,16 +98,16 @@ module _ (m : Memory) (before buffer : List ℕ) (from : Node) (read : ℕ) (w :
 
   -- what was read is all that there was room for
   ends : ((A : Type 0) → (l : List A) → length l ≡ length (chain m) → take (length before) l ≡ take read l)
-      → buffer_left buffer (Read read x) ≡ read_keys m before
+      → buffer_left buffer (Ok (read, x)) ≡ read_keys m before
   unfolding read_keys
   ends all =
       let long : length (take read (keys_on m)) ≡ read = length-take-le read (keys_on m) (omega (arith, keys_long m, w.passed)) in
       rw (all ℕ (keys_on m) (keys_long m), long, all Node (chain m) refl, told, w.words, w.stands)
 
-  along_full : read ≡ length before → buffer_left buffer (Read read x) ≡ read_keys m before
+  along_full : read ≡ length before → buffer_left buffer (Ok (read, x)) ≡ read_keys m before
   along_full full = ends (λ A l same. rw (sym full))
 
-  along_ends : read ≤ length before → Stops x → buffer_left buffer (Read read x) ≡ read_keys m before
+  along_ends : read ≤ length before → Stops x → buffer_left buffer (Ok (read, x)) ≡ read_keys m before
   along_ends room stops =
       let none : drop read (chain m) ≡ [] = sym w.rest ∙ ends_at m from x told stops in
       let short : length (drop read (chain m)) ≡ 0 = ap length none in
@@ -139,10 +140,11 @@ module _ (addresses links : List ℕ) (sizes : Sizes) (before : List ℕ) where
       along = λ m. along_on (Lent m) before buffer from read (w.along m) x (told m) next a is room;
     }
 
-    pub read_full : read ≡ length before → (m : Memory) → buffer_left buffer (Read read x) ≡ read_keys (Lent m) before
-    read_full full m = along_full (Lent m) before buffer from read (w.along m) x (told m) full
+    pub read_full : read ≡ length before → (m : Memory) → buffer_left buffer (Ok (length buffer, x)) ≡ read_keys (Lent m) before
+    read_full full m =
+        let all : length buffer ≡ read = w.long ∙ sym full in rw all (along_full (Lent m) before buffer from read (w.along m) x (told m) full)
 
-    pub read_ends : Stops x → (m : Memory) → buffer_left buffer (Read read x) ≡ read_keys (Lent m) before
+    pub read_ends : Stops x → (m : Memory) → buffer_left buffer (Ok (read, x)) ≡ read_keys (Lent m) before
     read_ends stops m = along_ends (Lent m) before buffer from read (w.along m) x (told m) w.room stops
 
 -- ---- what the test of the tables tells
@@ -157,6 +159,6 @@ module _ (addresses links deleters : List ℕ) (sizes : Sizes) (buffer : List �
     unfolding keys_of
     keys_read x fits e = rw (sym told, fits) (e lent)
 
-    pub keys_refused : fit ≡ false → buffer_left buffer (Refused 7) ≡ keys_of lent buffer
+    pub keys_refused : fit ≡ false → buffer_left buffer (Err BadSizes) ≡ keys_of lent buffer
     unfolding keys_of
     keys_refused unfit = rw (sym told, unfit)

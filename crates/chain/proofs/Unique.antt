@@ -7,9 +7,8 @@ use Rattle.record.specs.declared.Node.{Node}
 use Rattle.table.specs.Words.{Memory, fresh_memory}
 use Rattle.words.specs.declared.Sizes.{Sizes}
 use Rattle.chain.specs.declared.Ahead.{Ahead}
-use Rattle.chain.specs.declared.Keys.{Keys}
 use Rattle.chain.specs.Walking.{ahead_from}
-use Rattle.chain.specs.Keys.{buffer_left, keys_of}
+use Rattle.chain.specs.Keys.{Keys, buffer_left, keys_of}
 use Rattle.chain.proofs.Reading.{lent_in}
 
 -- what is promised of every memory is promised of a fresh one

@@ -1,6 +1,6 @@
 -- What reading the chain's addresses into a lent buffer leaves: "the address of every node on the chain between head and tail, rising".
 -- Rests on the table's `chain` and on Walking.
-use Rattle.std.specs.Prelude.{cond, List, map, ℕ, length, take}
+use Rattle.std.specs.Prelude.{cond, List, map, ℕ, length, take, Result, Ok, Err}
 use Rattle.std.proofs.Math.Option.{Option, none, some}
 use Rattle.record.specs.Record.{head_node}
 use Rattle.basics.specs.Over.{over}
@@ -8,16 +8,20 @@ use Rattle.record.specs.declared.Address.{Address}
 use Rattle.table.specs.Words.{Memory}
 use Rattle.table.specs.Events.{tables_fit}
 use Rattle.table.specs.Chain.{chain, last_of, chain_addresses}
-use Rattle.chain.specs.declared.Keys.{Keys}
-use Rattle.chain.specs.declared.Keys.TheVariants.{Refused, Read}
+use Rattle.record.specs.declared.Refusal.{Refusal}
+use Rattle.record.specs.declared.Refusal.TheVariants.{BadSizes}
 use Rattle.chain.specs.declared.Ahead.{Ahead}
 use Rattle.chain.specs.Walking.{ahead_from}
+
+-- how many addresses were read and what lies ahead of the last of them, or why none were
+abbrev pub Keys : Type 0
+Keys = Result (ℕ × Ahead) Refusal
 
 -- "Where an answer is an enum, a definition sets out this paper's number and values for each of its cases.": how many addresses were read and what
 -- lies ahead of the last of them; where none were, 7: "sizes outside the limits, a lent table too short, count below 2 or above the nodes"
 abbrev pub keys_from : Option (ℕ × Ahead) → Keys
-keys_from none = Refused 7
-keys_from (some (read, ahead)) = Read read ahead
+keys_from none = Err BadSizes
+keys_from (some (read, ahead)) = Ok (read, ahead)
 
 -- the buffer afterwards, and the answer
 pub record BufferLeft : Type 0 where

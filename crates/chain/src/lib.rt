@@ -1,19 +1,19 @@
 // The addresses on the chain, read into a lent buffer: what the `keys` line shows. Rests on the place table's walk and on the words.
 #![tactic(auto)]
 
-ghost use Rattle.std.specs.Prelude.{◌≡◌, ltb, eqb};
+ghost use Rattle.std.specs.Prelude.{◌≡◌, ltb, eqb, Ok};
 ghost use Rattle.record.specs.Record.{tail_node};
-ghost use Rattle.table.specs.Words.{Memory, addresses≔, links≔};
+ghost use Rattle.table.specs.Words.{Memory, addresses≔};
 ghost use Rattle.table.specs.Chain.{ahead_of};
-ghost use Rattle.words.specs.LentMemory.{lent_memory, sized};
-ghost use Rattle.chain.specs.Walking.{ahead_in, ahead_from};
+ghost use Rattle.words.specs.LentMemory.{lent_memory};
+ghost use Rattle.chain.specs.Walking.{memory_with, ahead_in, ahead_from};
 ghost use Rattle.chain.specs.Keys.{buffer_left, read_keys, keys_of};
 
-use record::{Address, HEAD, Node, TAIL, either};
+use record::{Address, HEAD, Node, Refusal, TAIL, either};
 use words::Sizes;
 
 // What the walk along the chain meets after a node: a node to go on to, with its address, or why it stops.
-#[derive(Clone, Copy)]
+#[derive(Clone, Copy, Debug, PartialEq, Eq)]
 pub enum Ahead {
     Next(Node, Address),
     Tail,
@@ -21,12 +21,12 @@ pub enum Ahead {
     NotAbove,
 }
 
-// What reading the chain's addresses comes to: refused with its number, or how many were written and what the walk met after the last of
-// them: a next node with its address, where the buffer was full.
+// What a walk along the chain looks at: lent addresses and links, and the stated sizes.
 #[derive(Clone, Copy)]
-pub enum Keys {
-    Refused(u8),
-    Read(usize, Ahead),
+pub struct Chain<'a> {
+    pub addresses: &'a [u32],
+    pub links: &'a [u32],
+    pub sizes: Sizes,
 }
 
 // Whether the walk at rank `from` goes on to a target at rank `to`, in use or not, or why it stops. The target's address is looked at only where
@@ -36,7 +36,7 @@ fn judge(addresses: &[u32], target: Node, used: bool, from: u64, to: u64) -> Ahe
     ensures { (m : Memory) → result ≡
         ahead_in (addresses≔ addresses.now m) (ahead_of target (eqb target.0 tail_node.0) used (ltb from to)) }
 {
-    if target.0 == TAIL.0 {
+    if target == TAIL {
         return Ahead::Tail;
     }
     if used {
@@ -49,43 +49,41 @@ fn judge(addresses: &[u32], target: Node, used: bool, from: u64, to: u64) -> Ahe
     Ahead::NotInUse
 }
 
-// The step of the walk: what it meets after a node. Where the target sorts is looked at only where the target is in use.
-pub fn onward(addresses: &[u32], links: &[u32], sizes: Sizes, from: Node) -> Ahead
-    ensures { (m : Memory) → result ≡ ahead_from (sized sizes (links≔ links.now (addresses≔ addresses.now m))) from }
-{
-    let target = words::target_of(words::word_at(links, from));
-    let used = words::in_use(links, sizes, target);
-    judge(
-        addresses,
-        target,
-        used,
-        words::rank_of(addresses, from),
-        words::rank_of(addresses, either(used, target, HEAD)),
-    )
-}
+impl Chain<'_> {
+    // The step of the walk: what it meets after a node. Where the target sorts is looked at only where the target is in use.
+    pub fn onward(&self, from: Node) -> Ahead
+        ensures { (m : Memory) → result ≡ ahead_from (memory_with self.now m) from }
+    {
+        let target = words::target_of(words::word_at(self.links, from));
+        let used = words::in_use(self.links, self.sizes, target);
+        judge(
+            self.addresses,
+            target,
+            used,
+            words::rank_of(self.addresses, from),
+            words::rank_of(self.addresses, either(used, target, HEAD)),
+        )
+    }
 
-// As many of the chain's addresses as the buffer has room for.
-fn read_chain(addresses: &[u32], links: &[u32], sizes: Sizes, buffer: &mut [u32]) -> Keys
-    ensures { (m : Memory) → buffer_left buffer.new result ≡
-        read_keys (sized sizes (links≔ links.now (addresses≔ addresses.now m))) buffer.old }
-{
-    let mut from = HEAD;
-    let mut read: usize = 0;
-    loop {
-        let ahead = onward(addresses, links, sizes, from);
-        let Ahead::Next(onto, address) = ahead else {
-            return Keys::Read(read, ahead);
-        };
-        if read == buffer.len() {
-            return Keys::Read(read, ahead);
+    // As many of the chain's addresses as the buffer has room for: how many they are, and what the walk meets after the last of them.
+    fn read_into(&self, buffer: &mut [u32]) -> (usize, Ahead)
+        ensures { (m : Memory) → buffer_left buffer.new (Ok result) ≡ read_keys (memory_with self.now m) buffer.old }
+    {
+        let mut from = HEAD;
+        for read in 0..buffer.len() {
+            let ahead = self.onward(from);
+            let Ahead::Next(onto, address) = ahead else {
+                return (read, ahead);
+            };
+            buffer[read] = address.0;
+            from = onto;
         }
-        buffer[read] = address.0;
-        read += 1;
-        from = onto;
+        (buffer.len(), self.onward(from))
     }
 }
 
-// The addresses on the chain from head, written from the buffer's start; its rest stays.
+// The addresses on the chain from head, written from the buffer's start; its rest stays. Answers how many were written, and what the walk met after
+// the last of them: a next node with its address, where the buffer was full.
 #[tactic(auto, using(crate::proofs::Reading::keys_refused))]
 pub fn chain_addresses(
     addresses: &[u32],
@@ -93,12 +91,17 @@ pub fn chain_addresses(
     deleters: &[u32],
     sizes: Sizes,
     buffer: &mut [u32],
-) -> Keys
+) -> Result<(usize, Ahead), Refusal>
     ensures { buffer_left buffer.new result ≡
         keys_of (lent_memory addresses.now links.now deleters.now sizes) buffer.old }
 {
     if words::tables_fit(addresses, links, deleters, sizes) {
-        return read_chain(addresses, links, sizes, buffer);
+        let chain = Chain {
+            addresses,
+            links,
+            sizes,
+        };
+        return Ok(chain.read_into(buffer));
     }
-    Keys::Refused(7)
+    Err(Refusal::BadSizes)
 }

@@ -9,7 +9,7 @@ use lib.ListN.{length}
 use Rattle.numbers.specs.Numbers.{got}
 use Rattle.schedule.specs.declared.Header.{Header}
 use Rattle.schedule.specs.declared.Cursor.{Cursor}
-use Rattle.schedule.specs.declared.HeaderRead.TheVariants.{Got}
+use Rattle.schedule.specs.HeaderRead.{Got}
 use Rattle.schedule.specs.Encoding.{Item, events_of, item_bytes, items_bytes, header_bytes, file_bytes}
 use Rattle.schedule.specs.Reading.{Reading, reading, read_header, item, refuses, next_item, bad_header, file, read_file, read_all}
 use Rattle.schedule.specs.Cursors.{header_at}

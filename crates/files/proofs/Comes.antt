@@ -18,10 +18,10 @@ use Rattle.numbers.specs.ReadAt.{place_in}
 use Rattle.numbers.proofs.Follows.{Follows, left_at, left_follows, Refusal}
 use Rattle.schedule.specs.declared.Header.{Header}
 use Rattle.schedule.specs.declared.Cursor.{Cursor}
-use Rattle.schedule.specs.declared.HeaderRead.{HeaderRead}
-use Rattle.schedule.specs.declared.HeaderRead.TheVariants as header
-use Rattle.schedule.specs.declared.EventRead.{EventRead}
-use Rattle.schedule.specs.declared.EventRead.TheVariants as event
+use Rattle.schedule.specs.HeaderRead.{HeaderRead}
+use Rattle.schedule.specs.HeaderRead as header
+use Rattle.schedule.specs.EventRead.{EventRead}
+use Rattle.schedule.specs.EventRead as event
 use Rattle.schedule.specs.Encoding.{Item, single, burst, events_of}
 use Rattle.schedule.specs.Reading.{Reading, read_header, NextItem, end, item, refuses, next_item, File, file, bad_header, read_file, read_all}
 use Rattle.schedule.specs.Cursors.{cursor_in, header_read, header_at, event_read, event_at}

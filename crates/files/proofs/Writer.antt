@@ -9,12 +9,13 @@ use native.Mathlib.Nat.{add-zero, zero-add}
 use native.Mathlib.Omega.{arith}
 use lib.ListN.{length, drop, length-append, take-append-drop}
 use lib.Seq.{take-append_seam}
+use Rattle.std.specs.Prelude.{Result, Ok, Err}
 use Rattle.record.specs.declared.Event.{Event}
+use Rattle.record.specs.declared.Refusal.{Refusal}
+use Rattle.record.specs.Refusal.{number_of}
 use Rattle.table.specs.Events.{sizes_fit}
 use Rattle.basics.proofs.Tests.{if, if_eq, if_le}
 use Rattle.schedule.specs.declared.Header.{Header}
-use Rattle.schedule.specs.declared.Written.{Written}
-use Rattle.schedule.specs.declared.Written.TheVariants.{Next, Refused}
 use Rattle.schedule.specs.Encoding.{header_bytes, event_bytes, item_bytes, items_bytes, file_bytes}
 use Rattle.schedule.specs.Reading.{reading, file, read_file}
 use Rattle.schedule.specs.Cursors.{start}
@@ -22,7 +23,7 @@ use Rattle.schedule.specs.Writing.{Wrote, wrote, answered, room, laid, put_at, w
 use Rattle.schedule.proofs.Unique.{Later, header_later, event_later}
 use Rattle.files.specs.Fits.{Each, HeaderFits, EventFits}
 use Rattle.files.specs.Stands.{Encodes}
-use Rattle.files.specs.Written.{written_events, written_file, written_bytes, singles, LeftAsFound, ReadsBack, filled_with, StoppedAtEvent}
+use Rattle.files.specs.Written.{written_events, written_file, written_bytes, singles, LeftAsFound, RefusedWith, ReadsBack, filled_with, StoppedAtEvent}
 use Rattle.files.proofs.Accepted.{encoding_read}
 use Rattle.files.proofs.Comes.{file_handed_out}
 use Rattle.files.proofs.Written.{limit, and_then, length_laid, laid_after, singles_fit, events_of_singles, written_reads_back}
@@ -103,47 +104,46 @@ writing_event_9_only e output at =
 -- ---- the code's answers: its promise is `answered left at r ≡ w`, where `left` is the output as it is left
 
 -- an answer is a refusal with a number exactly if that is the refusal's number
-refusal_answered : (w : Wrote) (left : List ℕ) (at : ℕ) (r : Written) (n : ℕ) → Later at w → answered left at r ≡ w
-    → (r ≡ Refused n) ↔ ((n ≢ 0) × (w.refusal ≡ n))
-refusal_answered w left at (Next next) n later is =
+refusal_answered : (w : Wrote) (left : List ℕ) (at : ℕ) (r : Result ℕ Refusal) (n : ℕ) → Later at w → answered left at r ≡ w
+    → RefusedWith n r ↔ ((n ≢ 0) × (w.refusal ≡ n))
+refusal_answered w left at (Ok next) n later is =
     let none : 0 ≡ w.refusal = λ j. (is j).refusal in
-    ((λ e. let z : ◌≡◌ {A = ℕ} 0 1 = cc in absurd (omega arith)), λ x. absurd (x.0 (sym x.1 ∙ sym none)))
-refusal_answered w left at (Refused m) n later is =
-    let number : m ≡ w.refusal = λ j. (is j).refusal in
+    ((λ e. absurd e), λ x. absurd (x.0 (sym x.1 ∙ sym none)))
+refusal_answered w left at (Err refusal) n later is =
+    let number : number_of refusal ≡ w.refusal = λ j. (is j).refusal in
     let here : at ≡ w.at = λ j. (is j).at in (
-      (λ e. let same : m ≡ n = cc in
-          ((λ zero. absurd (omega (arith, later (sym number ∙ same ∙ zero)))), sym number ∙ same)),
-      λ x. ap Refused (number ∙ x.1),
+      (λ same. ((λ zero. absurd (omega (arith, later (sym number ∙ same ∙ zero)))), sym number ∙ same)),
+      λ x. number ∙ x.1,
     )
 
-answer_left : (w : Wrote) (output left : List ℕ) (at : ℕ) (r : Written) (n : ℕ) → Later at w → LeftAsFound output at w
-    → answered left at r ≡ w → r ≡ Refused n → left ≡ output
+answer_left : (w : Wrote) (output left : List ℕ) (at : ℕ) (r : Result ℕ Refusal) (n : ℕ) → Later at w → LeftAsFound output at w
+    → answered left at r ≡ w → RefusedWith n r → left ≡ output
 answer_left w output left at r n later as-found is refused =
     let number = (refusal_answered w left at r n later is).0 refused in
     left_is ∙ (as-found (λ e. number.0 (sym number.1 ∙ e))).0
   where
-    output_of : (x : Written) → (answered left at x).output ≡ left
-    output_of (Next next) = refl
-    output_of (Refused m) = refl
+    output_of : (x : Result ℕ Refusal) → (answered left at x).output ≡ left
+    output_of (Ok next) = refl
+    output_of (Err refusal) = refl
 
     left_is : left ≡ w.output
     left_is = sym (output_of r) ∙ (λ j. (is j).output)
 
-module _ (output left : List ℕ) (at : ℕ) (r : Written) (n : ℕ) where
+module _ (output left : List ℕ) (at : ℕ) (r : Result ℕ Refusal) (n : ℕ) where
   pub header_answer_refused : (h : Header) → answered left at r ≡ written_header h output at
-      → (r ≡ Refused n) ↔ ((n ≢ 0) × ((written_header h output at).refusal ≡ n))
+      → RefusedWith n r ↔ ((n ≢ 0) × ((written_header h output at).refusal ≡ n))
   header_answer_refused h = refusal_answered (written_header h output at) left at r n (header_later h output at)
 
   pub event_answer_refused : (e : Event) → answered left at r ≡ written_event e output at
-      → (r ≡ Refused n) ↔ ((n ≢ 0) × ((written_event e output at).refusal ≡ n))
+      → RefusedWith n r ↔ ((n ≢ 0) × ((written_event e output at).refusal ≡ n))
   event_answer_refused e = refusal_answered (written_event e output at) left at r n (event_later e output at)
 
   -- a header or an event that the code refused has left the output as it was
-  pub header_answer_leaves : (h : Header) → answered left at r ≡ written_header h output at → r ≡ Refused n → left ≡ output
+  pub header_answer_leaves : (h : Header) → answered left at r ≡ written_header h output at → RefusedWith n r → left ≡ output
   header_answer_leaves h =
       answer_left (written_header h output at) output left at r n (header_later h output at) (refused_header_left_as_found h output at)
 
-  pub event_answer_leaves : (e : Event) → answered left at r ≡ written_event e output at → r ≡ Refused n → left ≡ output
+  pub event_answer_leaves : (e : Event) → answered left at r ≡ written_event e output at → RefusedWith n r → left ≡ output
   event_answer_leaves e =
       answer_left (written_event e output at) output left at r n (event_later e output at) (refused_event_left_as_found e output at)
 

@@ -5,7 +5,7 @@ use Rattle.record.specs.Event.{event_of}
 use Rattle.record.specs.declared.Action.TheVariants.{Step}
 use Rattle.record.specs.declared.Event.{Event}
 use Rattle.schedule.specs.declared.Cursor.{Cursor}
-use Rattle.schedule.specs.declared.EventRead.TheVariants as event
+use Rattle.schedule.specs.EventRead as event
 use Rattle.schedule.specs.Encoding.{events_of}
 use Rattle.schedule.specs.Reading.{read_all}
 use Rattle.schedule.specs.Cursors.{event_at}

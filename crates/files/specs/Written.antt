@@ -1,11 +1,13 @@
 -- A whole file written: the header, then the events one after another, up to the first refusal; and what reads back. Rests on the schedule's
 -- writing and reading.
-use Rattle.std.specs.Prelude.{◌≡◌, ◌≢◌, cond, List, [], ◌∷◌, ◌++◌, map, ℕ, ◌<◌, eqb, length, take, drop}
+use Rattle.std.specs.Prelude.{◌≡◌, ◌≢◌, cond, List, [], ◌∷◌, ◌++◌, map, ℕ, ◌<◌, eqb, length, take, drop, Result, IsErrAnd}
 use Rattle.std.proofs.Math.Option.{some}
 use Rattle.record.specs.declared.Event.{Event}
+use Rattle.record.specs.declared.Refusal.{Refusal}
+use Rattle.record.specs.Refusal.{number_of}
 use Rattle.schedule.specs.declared.Header.{Header}
 use Rattle.schedule.specs.declared.Cursor.{Cursor}
-use Rattle.schedule.specs.declared.HeaderRead.TheVariants.{Got}
+use Rattle.schedule.specs.HeaderRead.{Got}
 use Rattle.schedule.specs.Encoding.{Item, single, burst, event_bytes, file_bytes}
 use Rattle.schedule.specs.Reading.{reading, file, read_file}
 use Rattle.schedule.specs.Cursors.{start, header_at}
@@ -32,6 +34,10 @@ written_bytes w = take w.at w.output
 -- "output unchanged": a refusal leaves output and place as they were
 abbrev pub LeftAsFound : (output : List ℕ) (at : ℕ) → Wrote → Type 0
 LeftAsFound output at w = w.refusal ≢ 0 → (w.output ≡ output) × (w.at ≡ at)
+
+-- the writer's answer is the refusal of a number
+abbrev pub RefusedWith : ℕ → Result ℕ Refusal → Type 0
+RefusedWith n r = IsErrAnd r (λ refusal. number_of refusal ≡ n)
 
 -- events as the items of a file, none of them a burst
 abbrev pub singles : List Event → List Item

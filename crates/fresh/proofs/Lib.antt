@@ -1,3 +1,2 @@
-pub mod Over
 pub mod Freshness
 pub mod Unique

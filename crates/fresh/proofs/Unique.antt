@@ -5,8 +5,7 @@ use mathlib.Core.List.{List}
 use Rattle.record.specs.declared.Record.{Record}
 use Rattle.table.specs.Words.{Memory}
 use Rattle.table.specs.Events.{state_of}
-use Rattle.fresh.specs.declared.Made.{Made}
-use Rattle.fresh.specs.Fresh.{tables_left, fresh_tables, list_left, fresh_list}
+use Rattle.fresh.specs.Fresh.{Made, tables_left, fresh_tables, list_left, fresh_list}
 
 -- the memory lent, and what two outcomes leave of it
 module _ (m m₁ m₂ : Memory) (a₁ a₂ : Made) where

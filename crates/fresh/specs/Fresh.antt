@@ -1,19 +1,23 @@
 -- Lent tables and a lent row of records made fresh, or refused. Rests on the place table's fresh state.
-use Rattle.std.specs.Prelude.{Bool, cond, ◌&&◌, ℕ, leb, length}
+use Rattle.std.specs.Prelude.{Bool, cond, ◌&&◌, ℕ, leb, length, Result, Ok, Err}
 use Rattle.std.proofs.Math.Option.{Option, none, some}
 use Rattle.basics.specs.Over.{over}
 use Rattle.table.specs.Words.{Memory, memory, count≔, fresh_memory}
 use Rattle.table.specs.Events.{tables_fit, State, state_of, fresh}
 use Rattle.words.specs.LentMemory.{sizes_of}
 use Rattle.words.specs.declared.Sizes.{Sizes}
-use Rattle.fresh.specs.declared.Made.{Made}
-use Rattle.fresh.specs.declared.Made.TheVariants.{Refused, Fresh}
+use Rattle.record.specs.declared.Refusal.{Refusal}
+use Rattle.record.specs.declared.Refusal.TheVariants.{BadSizes}
+
+-- the sizes of what was made fresh, or why nothing was
+abbrev pub Made : Type 0
+Made = Result Sizes Refusal
 
 -- "Where an answer is an enum, a definition sets out this paper's number and values for each of its cases.": the sizes of what was made fresh; where
 -- nothing was, 7: "sizes outside the limits, a lent table too short"
 abbrev pub made_of : Option Sizes → Made
-made_of none = Refused 7
-made_of (some sizes) = Fresh sizes
+made_of none = Err BadSizes
+made_of (some sizes) = Ok sizes
 
 -- ---- the tables alone
 

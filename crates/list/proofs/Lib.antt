@@ -1,7 +1,4 @@
-pub mod Turns
 pub mod Accessed
-pub mod Ends
-pub mod ByPlace
-pub mod OutOfRange
 pub mod Judged
+pub mod Turns
 pub mod Unique

@@ -1,214 +1,197 @@
--- What a step leaves, by the access of its row: once for each sort of access, over any row that makes it and any memory. Rests on the table's Steps,
--- on Accesses and on Rows.
-use mathlib.Core.Path.{◌≡◌, refl, sym, ap, subst, ◌∙◌}
+-- What a step leaves, of what its row leaves: a row made by its access is the row as the place table has it. Rests on the table's Steps, on Accesses
+-- and on Rows.
+use mathlib.Core.Path.{◌≡◌, refl, sym, ap, ◌∙◌}
 use mathlib.Core.Bool.{Bool, true, false, cond, ◌&&◌}
-use mathlib.Core.List.{List}
-use Prim.Native.Nat.{ℕ}
+use mathlib.Core.List.{List, [], ◌∷◌, ◌++◌}
+use Prim.Native.Nat.{ℕ, zero, suc, ◌<◌, ◌≤◌}
 use lib.Dec.{eqb}
-use lib.ListN.{get_or, set}
+use lib.ListN.{length, get_or, set}
+use native.Mathlib.Omega.{arith}
+use borrow.Author.Tests.{leb-true}
+use Rattle.std.specs.Prelude.{Option, Some, None, option_map}
+use Rattle.basics.proofs.Tests.{by-test}
+use Rattle.record.specs.Record.{◌▸◌, status≔, idle_status}
 use Rattle.record.specs.declared.Node.{Node}
 use Rattle.record.specs.declared.Process.{Process}
 use Rattle.record.specs.declared.Record.{Record}
+use Rattle.record.specs.declared.Outcome.{Outcome}
 use Rattle.record.specs.declared.Outcome.TheVariants.{Refused, Accepted, Answered}
 use Rattle.table.specs.Words.{Memory, links≔, deleters≔, link_at, deleter_at, target_of, is_marked, in_use, written, deleter_word, no_deleter}
 use Rattle.table.specs.Words.{nothing, link_is, deleter_is}
-use Rattle.table.specs.Places.{Field, Link, Row, Next, goes, node_of, link_of, place_of, row}
+use Rattle.table.specs.Places.{Field, own, Next, goes, uses_own, node_of, link_of, Place, place_of, Row, row}
+use Rattle.table.specs.Places.{p0, p1, p2, p3, p4, p5, p6, p7, p8, p9, p10, p11, p12, p13, p14, p15, p16, p17, p18, p19, off}
 use Rattle.table.specs.Places.{read_link, write_link, swap_link, read_deleter, swap_deleter, write_node, own_record, hand_out}
-use Rattle.table.specs.Steps.{usable, all_usable, all_used, turn_in, word_met, own_usable, record_after, field_of, access_of}
+use Rattle.table.specs.Steps.{usable, all_usable, all_used, in_range, turn_in, word_met, own_usable, record_after, field_of, access_of, access_in}
 use Rattle.table.specs.Events.{Left, step, leaving, refused}
-use Rattle.words.specs.LentMemory.{sized}
-use Rattle.words.specs.LentWords.{no_link, link_met, swap_left, swapped, swap_of}
-use Rattle.words.specs.declared.Sizes.{Sizes}
+use Rattle.table.proofs.Laws.Ranges.{condition}
+use Rattle.words.specs.LentMemory.{lent_memory, sized}
+use Rattle.words.specs.LentWords.{link_met, SwapLeft, swap_left, swapped, swap_of}
 use Rattle.words.specs.declared.LinkRead.{LinkRead}
-use Rattle.list.specs.declared.access.DeleterRead.{DeleterRead}
-use Rattle.list.specs.declared.access.SwapMet.{SwapMet}
+use Rattle.list.specs.Accesses.{◌>>=◌, usable_node, link_read, deleter_read, write_made, swap_made, access_made, link_written, link_swap, deleter_swap}
+use Rattle.list.specs.declared.Acted.{Acted}
+use Rattle.words.specs.declared.Sizes.{Sizes}
 use Rattle.list.specs.Acting.{left}
-use Rattle.list.specs.Accesses.{link_read, deleter_read, write_left, link_written, access_left, swap_made, no_swap}
-use Rattle.list.specs.Accesses.{link_swap, deleter_swap}
-use Rattle.list.specs.Rows.{StandsAt, turn_of, acted_as}
+use Rattle.list.specs.Rows.{RowLeaves, acted_as, turned, RowLeft, row_left, followed, row_made}
 
--- the tests of a row that uses three nodes, two, one, without the trues
-fits_three : (a b d : Bool) → ((a && (b && (d && true))) && true && true) ≡ (a && b && d)
-fits_three true true true = refl
-fits_three true true false = refl
-fits_three true false d = refl
-fits_three false b d = refl
+-- what a step leaves, of what its row leaves and says
+abbrev leaves : Record → Outcome → RowLeft → Left
+leaves r says x = elim x.after [ Some after ↦ leaving x.memory after says | None ↦ leaving x.memory r (Refused 8) ]
 
-fits_two : (a b : Bool) → ((a && (b && true)) && true && true) ≡ (a && b)
-fits_two true true = refl
-fits_two true false = refl
-fits_two false b = refl
+module _ (m : Memory) (p : Process) (r : Record) where
+  abbrev used : Node → Bool
+  used = in_use m
 
-fits_one : (a : Bool) → ((a && true) && true && true) ≡ a
-fits_one true = refl
-fits_one false = refl
-
--- a record that was left as it was where the step does not fit
-pub left_unless : (fits : Bool) (sizes : Sizes) (r after : Record) →
-    acted_as sizes (cond fits after r) (cond fits Accepted (Refused 8)) ≡ turn_of fits sizes r after
-unfolding turn_of
-left_unless true sizes r after = refl
-left_unless false sizes r after = refl
-
-module _ (m₀ : Memory) (sizes : Sizes) (p : Process) (r : Record) where
-  abbrev m : Memory
-  m = sized sizes m₀
-
-  -- what a row comes to
+  -- what a row of the place table comes to, of a record in its ranges
   abbrev worked : Row → Left
   worked x =
       let a = access_of p r x in
       let w = word_met m r a.meets in
-      cond (all_usable (in_use m) r a.uses && all_used (in_use m) (a.leads w) && own_usable (in_use m) r (a.next w))
+      cond (all_usable used r a.uses && all_used used (a.leads w) && own_usable used r (a.next w))
       (leaving (written (a.writes w) m) (record_after (a.next w)) a.says) (refused m r 8)
 
-  module _ (n : ℕ) (s : StandsAt n r) where
-    step_at : (x : Row) → row m₀.addresses (place_of n) r ≡ x → step m p r ≡ worked x
-    unfolding step turn_in
-    step_at x e = rw (ap (λ (k : ℕ). row m₀.addresses (place_of k) r) s.place ∙ e, s.ranged)
+  -- ---- each sort of access, by its tests
 
-    -- no word is written
-    turned : (accepted : Bool) (after : Record) →
-        left m₀ (turn_of accepted sizes r after) ≡ cond accepted (leaving m after Accepted) (refused m r 8)
-    unfolding turn_of
-    turned true after = refl
-    turned false after = refl
+  follows : (x : Next) (own_used : Bool) → own_used ≡ usable used r own →
+      leaves r Accepted (row_left m (followed m r x)) ≡ cond (own_usable used r x) (leaving m (record_after x) Accepted) (refused m r 8)
+  unfolding usable_node
+  follows (goes s) b is = refl
+  follows (uses_own s) true is = rw (← is) refl
+  follows (uses_own s) false is = rw (← is) refl
 
-    -- a link read: by whether its node is usable and its target in use
-    reads : (u t : Bool) (target : Node) (mark : Bool) (next : Node → Bool → Next) →
-        (let read = cond u (cond t (record { accepted = true; target = target; mark = mark }) no_link) no_link in
-        let x = next read.target read.mark in
-        (fits : Bool) (after : Record) → fits ≡ (read.accepted && own_usable (in_use m) r x) → (read.accepted ≡ true → after ≡ record_after x) →
-        left m₀ (turn_of fits sizes r after) ≡
-        cond ((u && true) && (t && true) && own_usable (in_use m) r (next target mark)) (leaving m (record_after (next target mark)) Accepted) (refused m r 8))
-    reads true true target mark next fits after is made =
-        rw (is, made refl) (turned (own_usable (in_use m) r (next target mark)) (record_after (next target mark)))
-    reads true false target mark next fits after is made = rw is (turned false after)
-    reads false t target mark next fits after is made = rw is (turned false after)
+  reads : (u t : Bool) (n target : Node) (mark : Bool) (next : Node → Bool → Next) (met : Node → Option LinkRead) →
+      met n ≡ cond t (Some (record { target = target; mark = mark })) None →
+      leaves r Accepted (row_left m (cond u (Some n) None >>= met >>= λ x. followed m r (next x.target x.mark))) ≡
+      cond ((u && true) && (t && true) && own_usable used r (next target mark)) (leaving m (record_after (next target mark)) Accepted) (refused m r 8)
+  reads true true n target mark next met e = rw e (follows (next target mark) _ refl)
+  reads true false n target mark next met e = rw e
+  reads false t n target mark next met e = refl
 
-    -- a link read whose row may use own at the end
-    pub read_link_own : (f : Field) (next : Node → Bool → Next) → row m₀.addresses (place_of n) r ≡ read_link f next →
-        (read : LinkRead) → read ≡ link_read m r f → (fits : Bool) (after : Record) →
-        fits ≡ (read.accepted && own_usable (in_use m) r (next read.target read.mark)) →
-        (read.accepted ≡ true → after ≡ record_after (next read.target read.mark)) →
-        left m₀ (turn_of fits sizes r after) ≡ step m p r
-    unfolding link_read link_met word_met written
-    read_link_own f next e read is =
-        subst
-        (λ (read : LinkRead). (fits : Bool) (after : Record) →
-        fits ≡ (read.accepted && own_usable (in_use m) r (next read.target read.mark)) →
-        (read.accepted ≡ true → after ≡ record_after (next read.target read.mark)) →
-        left m₀ (turn_of fits sizes r after) ≡ step m p r) (sym is)
-        (λ fits after h made.
-        let word : ℕ = link_at m (node_of r f) in
-        reads (usable (in_use m) r f) (in_use m (target_of word)) (target_of word) (is_marked word) next fits after h made
-        ∙ sym (step_at (read_link f next) e))
+  tells : (u : Bool) (mine : Node → Bool) (n : Node) (next : Bool → Record) →
+      leaves r Accepted (row_left m (option_map next (cond u (Some n) None >>= λ n. Some (mine n)))) ≡
+      cond ((u && true) && true && true) (leaving m (next (mine n)) Accepted) (refused m r 8)
+  tells true mine n next = refl
+  tells false mine n next = refl
 
-    and_true : (b : Bool) → b ≡ (b && true)
-    and_true true = refl
-    and_true false = refl
+  names : (u : Bool) (n : Node) (after : Record) →
+      leaves r Accepted (row_left m (option_map (λ n. after) (cond u (Some n) None))) ≡
+      cond ((u && true) && true && true) (leaving m after Accepted) (refused m r 8)
+  names true n after = refl
+  names false n after = refl
 
-    pub read_link_lem : (f : Field) (next : Node → Bool → Record) → row m₀.addresses (place_of n) r ≡ read_link f (λ target mark. goes (next target mark)) →
-        (read : LinkRead) → read ≡ link_read m r f → (after : Record) → after ≡ next read.target read.mark →
-        left m₀ (turn_of read.accepted sizes r after) ≡ step m p r
-    read_link_lem f next e read is after made =
-        read_link_own f (λ target mark. goes (next target mark)) e read is read.accepted after (and_true read.accepted) (λ fits. made)
+  writes : (u t : Bool) (n x node : Node) (word : ℕ) (after : Record) →
+      (let x = access_made m.links (cond u (Some n) None >>= λ n. cond t (Some x) None >>= λ to. Some (write_made (set m.links n.0 word))) in
+      leaves r Accepted (row_left (links≔ x.words m) (option_map (λ u. after) x.met))) ≡
+      cond ((u && (t && true)) && true && true) (leaving (written (link_is n word) m) after Accepted) (refused m r 8)
+  unfolding written
+  writes true true n x node word after = refl
+  writes true false n x node word after = refl
+  writes false t n x node word after = refl
 
-    -- a deleter read
-    tells : (u mine : Bool) (next : Bool → Record) →
-        (let read : DeleterRead = cond u (record { accepted = true; mine = mine }) (record { accepted = false; mine = false }) in
-        left m₀ (turn_of read.accepted sizes r (next read.mine)) ≡ cond u (leaving m (next mine) Accepted) (refused m r 8))
-    unfolding turn_of
-    tells true mine next = refl
-    tells false mine next = refl
+  swaps : (u s t same : Bool) (n x y : Node) (new found : ℕ) (done lost : Record) (met : Node → SwapLeft) →
+      met n ≡ swap_left (cond same (set m.links n.0 new) m.links) (swapped same found) →
+      (let x = access_made m.links (cond u (Some n) None >>= λ n. cond s (Some x) None >>= λ from. cond t (Some y) None >>= λ to. Some (swap_made (met n))) in
+      leaves r Accepted (row_left (links≔ x.words m) (option_map (λ s. cond s.wrote done lost) x.met))) ≡
+      cond ((u && (s && (t && true))) && true && true) (leaving (written (cond same (link_is n new) nothing) m) (cond same done lost) Accepted) (refused m r 8)
+  unfolding written
+  swaps true true true true n x y new found done lost met e = rw e
+  swaps true true true false n x y new found done lost met e = rw e
+  swaps true true false same n x y new found done lost met e = refl
+  swaps true false t same n x y new found done lost met e = refl
+  swaps false s t same n x y new found done lost met e = refl
 
-    pub read_deleter_lem : (f : Field) (next : Bool → Record) → row m₀.addresses (place_of n) r ≡ read_deleter f next →
-        (read : DeleterRead) → read ≡ deleter_read m p r f → (after : Record) → after ≡ next read.mine →
-        left m₀ (turn_of read.accepted sizes r after) ≡ step m p r
-    unfolding deleter_read word_met written
-    read_deleter_lem f next e read is after made =
-        ap (λ (x : Record). left m₀ (turn_of read.accepted sizes r x)) made
-        ∙ ap (λ (x : DeleterRead). left m₀ (turn_of x.accepted sizes r (next x.mine))) is
-        ∙ tells (usable (in_use m) r f) (eqb (deleter_at m (node_of r f)) (deleter_word p)) next
-        ∙ rw (step_at (read_deleter f next) e, fits_one (usable (in_use m) r f))
+  signs : (u same : Bool) (n : Node) (new found : ℕ) (after : Record) (met : Node → SwapLeft) →
+      met n ≡ swap_left (cond same (set m.deleters n.0 new) m.deleters) (swapped same found) →
+      (let x = access_made m.deleters (cond u (Some n) None >>= λ n. Some (swap_made (met n))) in
+      leaves r Accepted (row_left (deleters≔ x.words m) (option_map (λ s. after) x.met))) ≡
+      cond ((u && true) && true && true) (leaving (written (cond same (deleter_is n new) nothing) m) after Accepted) (refused m r 8)
+  unfolding written
+  signs true true n new found after met e = rw e
+  signs true false n new found after met e = rw e
+  signs false same n new found after met e = refl
 
-    -- a field of the record itself written, the record read, an answer handed out
-    pub write_node_lem : (f : Field) (after : Record) → row m₀.addresses (place_of n) r ≡ write_node f after →
-        (accepted : Bool) → accepted ≡ usable (in_use m) r f → left m₀ (turn_of accepted sizes r after) ≡ step m p r
-    unfolding word_met written
-    write_node_lem f after e accepted is =
-        ap (λ (b : Bool). left m₀ (turn_of b sizes r after)) is
-        ∙ turned (usable (in_use m) r f) after
-        ∙ rw (step_at (write_node f after) e, fits_one (usable (in_use m) r f))
+  made : (x : Row) → leaves r (access_of p r x).says (row_made m p r x) ≡ worked x
+  unfolding usable_node link_read deleter_read link_written link_swap deleter_swap link_met swap_of word_met link_at deleter_at written
+  made (read_link f next) =
+      let word : ℕ = link_at m (node_of r f) in
+      reads (usable used r f) (used (target_of word)) (node_of r f) (target_of word) (is_marked word) next (link_met m) refl
+  made (write_link f new after) =
+      writes (usable used r f) (usable used r (field_of new)) (node_of r f) (node_of r (field_of new)) (node_of r f) (link_of r new) after
+  made (swap_link f old new done lost) =
+      let found : ℕ = get_or m.links (node_of r f).0 0 in
+      swaps (usable used r f) (usable used r (field_of old)) (usable used r (field_of new)) (eqb found (link_of r old))
+      (node_of r f) (node_of r (field_of old)) (node_of r (field_of new)) (link_of r new) found done lost
+      (λ n. swap_of m.links n (link_of r old) (link_of r new)) refl
+  made (read_deleter f next) = tells (usable used r f) (λ n. eqb (deleter_at m n) (deleter_word p)) (node_of r f) next
+  made (swap_deleter f after) =
+      let found : ℕ = get_or m.deleters (node_of r f).0 0 in
+      signs (usable used r f) (eqb found no_deleter) (node_of r f) (deleter_word p) found after
+      (λ n. swap_of m.deleters n no_deleter (deleter_word p)) refl
+  made (write_node f after) = names (usable used r f) (node_of r f) after
+  made (own_record after) = refl
+  made (hand_out answer after) = refl
 
-    pub own_record_lem : (after : Record) → row m₀.addresses (place_of n) r ≡ own_record after →
-        left m₀ (acted_as sizes after Accepted) ≡ step m p r
-    unfolding word_met written
-    own_record_lem after e = rw (step_at (own_record after) e)
+  -- ---- a step
 
-    pub hand_out_lem : (answer : ℕ) (after : Record) → row m₀.addresses (place_of n) r ≡ hand_out answer after →
-        left m₀ (acted_as sizes after (Answered answer)) ≡ step m p r
-    unfolding word_met written
-    hand_out_lem answer after e = rw (step_at (hand_out answer after) e)
+  ranged_step : in_range r ≡ true → (n : ℕ) → r.lost.place ≡ n → worked (row m.addresses (place_of n) r) ≡ step m p r
+  unfolding step turn_in
+  ranged_step ranged n at = ap (λ (k : ℕ). worked (row m.addresses (place_of k) r)) (sym at) ∙ rw ranged refl
 
-    -- a link written
-    writes : (accepted : Bool) (node : Node) (word : ℕ) (after : Record) →
-        left (links≔ (cond accepted (set m₀.links node.0 word) m₀.links) m₀) (turn_of accepted sizes r after) ≡
-        cond accepted (leaving (written (link_is node word) m) after Accepted) (refused m r 8)
-    unfolding turn_of written
-    writes true node word after = refl
-    writes false node word after = refl
+  -- what a row says
+  abbrev says : Place → Outcome
+  says l = (access_of p r (row m.addresses l r)).says
 
-    pub write_link_lem : (f : Field) (new : Link) (after : Record) → row m₀.addresses (place_of n) r ≡ write_link f new after →
-        (words : List ℕ) (accepted : Bool) → write_left words accepted ≡ link_written m r f new →
-        left (links≔ words m₀) (turn_of accepted sizes r after) ≡ step m p r
-    unfolding link_written word_met
-    write_link_lem f new after e words accepted is =
-        (λ i. left (links≔ (is i).words m₀) (turn_of (is i).accepted sizes r after))
-        ∙ writes (usable (in_use m) r f && usable (in_use m) r (field_of new)) (node_of r f) (link_of r new) after
-        ∙ rw (step_at (write_link f new after) e, fits_two (usable (in_use m) r f) (usable (in_use m) r (field_of new)))
+  abbrev AllAccept : List Place → Type 0
+  AllAccept [] = Unit {0}
+  AllAccept (l ∷ ls) = (says l ≡ Accepted) × AllAccept ls
 
-    -- a link swapped: rows 2, 4, 7 and 8
-    link_swaps : (u same : Bool) (node : Node) (new found : ℕ) (done lost : Record) →
-        (let x = cond u (swap_made (swap_left (cond same (set m₀.links node.0 new) m₀.links) (swapped same found)))
-        (access_left m₀.links no_swap) in
-        left (links≔ x.words m₀) (turn_of x.met.accepted sizes r (cond x.met.wrote done lost)) ≡
-        cond u (leaving (written (cond same (link_is node new) nothing) m) (cond same done lost) Accepted) (refused m r 8))
-    unfolding turn_of written
-    link_swaps true true node new found done lost = refl
-    link_swaps true false node new found done lost = refl
-    link_swaps false same node new found done lost = refl
+  accepts : (ls later : List Place) → AllAccept ls → (n : ℕ) → n < length ls → says (get_or (ls ++ later) n off) ≡ Accepted
+  accepts [] later all n h = absurd (omega arith)
+  accepts (l ∷ ls) later all zero h = all.0
+  accepts (l ∷ ls) later all (suc n) h = accepts ls later all.1 n (omega arith)
 
-    pub swap_link_lem : (f : Field) (old new : Link) (done lost : Record) → row m₀.addresses (place_of n) r ≡ swap_link f old new done lost →
-        (words : List ℕ) (met : SwapMet) → access_left words met ≡ link_swap m r f old new →
-        left (links≔ words m₀) (turn_of met.accepted sizes r (cond met.wrote done lost)) ≡ step m p r
-    unfolding link_swap swap_of word_met link_at
-    swap_link_lem f old new done lost e words met is =
-        (λ i. left (links≔ (is i).words m₀) (turn_of (is i).met.accepted sizes r (cond (is i).met.wrote done lost)))
-        ∙ link_swaps (usable (in_use m) r f && usable (in_use m) r (field_of old) && usable (in_use m) r (field_of new))
-        (eqb (get_or m₀.links (node_of r f).0 0) (link_of r old)) (node_of r f) (link_of r new) (get_or m₀.links (node_of r f).0 0) done lost
-        ∙ rw (
-          step_at (swap_link f old new done lost) e,
-          fits_three (usable (in_use m) r f) (usable (in_use m) r (field_of old)) (usable (in_use m) r (field_of new)),
-        )
+  accepted_before : (n : ℕ) → n < 19 → says (place_of n) ≡ Accepted
+  unfolding row place_of
+  accepted_before =
+      accepts (p0 ∷ p1 ∷ p2 ∷ p3 ∷ p4 ∷ p5 ∷ p6 ∷ p7 ∷ p8 ∷ p9 ∷ p10 ∷ p11 ∷ p12 ∷ p13 ∷ p14 ∷ p15 ∷ p16 ∷ p17 ∷ p18 ∷ []) (p19 ∷ [])
+      (refl, (refl, (refl, (refl, (refl, (refl, (refl, (refl, (refl, (refl, (refl, (refl, (refl, (refl, (refl, (refl, (refl, (refl, (refl, tt)))))))))))))))))))
 
-    -- a deleter swapped
-    deleter_swaps : (u same : Bool) (node : Node) (new found : ℕ) (after : Record) →
-        (let x = cond u (swap_made (swap_left (cond same (set m₀.deleters node.0 new) m₀.deleters) (swapped same found)))
-        (access_left m₀.deleters no_swap) in
-        left (deleters≔ x.words m₀) (turn_of x.met.accepted sizes r after) ≡
-        cond u (leaving (written (cond same (deleter_is node new) nothing) m) after Accepted) (refused m r 8))
-    unfolding turn_of written
-    deleter_swaps true true node new found after = refl
-    deleter_swaps true false node new found after = refl
-    deleter_swaps false same node new found after = refl
+-- ---- what the code of a step answers
 
-    pub swap_deleter_lem : (f : Field) (after : Record) → row m₀.addresses (place_of n) r ≡ swap_deleter f after →
-        (words : List ℕ) (met : SwapMet) → access_left words met ≡ deleter_swap m p r f →
-        left (deleters≔ words m₀) (turn_of met.accepted sizes r after) ≡ step m p r
-    unfolding deleter_swap swap_of word_met deleter_at
-    swap_deleter_lem f after e words met is =
-        (λ i. left (deleters≔ (is i).words m₀) (turn_of (is i).met.accepted sizes r after))
-        ∙ deleter_swaps (usable (in_use m) r f) (eqb (get_or m₀.deleters (node_of r f).0 0) no_deleter) (node_of r f) (deleter_word p)
-        (get_or m₀.deleters (node_of r f).0 0) after
-        ∙ rw (step_at (swap_deleter f after) e, fits_one (usable (in_use m) r f))
+-- there is no place past the table
+pub past_the_table : (d : Left) (m : Memory) (p : Process) (r : Record) → in_range r ≡ true → 19 < r.lost.place → d ≡ step m p r
+past_the_table d m p r ranged past = absurd (omega (arith, leb-true r.lost.place 19 (condition r ranged 0)))
+
+module _ (sizes : Sizes) (p : Process) (r : Record) (addresses links deleters : List ℕ) (a : Acted) where
+
+  abbrev lent : Memory
+  lent = lent_memory addresses links deleters sizes
+
+  turned_is : (m : Memory) (after : Option Record) → sized sizes m ≡ m → left m (turned sizes r after) ≡ leaves r Accepted (row_left m after)
+  turned_is m (Some after) same = ap (λ (k : Memory). leaving k after Accepted) same
+  turned_is m None same = ap (λ (k : Memory). leaving k r (Refused 8)) same
+
+  -- a row below 19, from what its code tells of it
+  pub takes : (links' deleters' : List ℕ) (n : ℕ) (before after : Memory → Memory) (told : Option Record) →
+      RowLeaves n sizes p r before after told → a ≡ turned sizes r told →
+      sized sizes (before lent) ≡ lent → sized sizes (after lent) ≡ lent_memory addresses links' deleters' sizes →
+      in_range r ≡ true → r.lost.place ≡ n → n < 19 → left (lent_memory addresses links' deleters' sizes) a ≡ step lent p r
+  unfolding RowLeaves
+  takes links' deleters' n before after told made_so is was then ranged at early =
+      let m' : Memory = lent_memory addresses links' deleters' sizes in
+      let here : Row = row addresses (place_of n) r in
+      let left_so : row_left m' told ≡ row_made lent p r here =
+          ap (λ (k : Memory). row_left k told) (sym then) ∙ made_so lent
+          ∙ ap (λ (k : Memory). row_made k p r (row k.addresses (place_of n) r)) was in
+      ap (left m') is ∙ turned_is m' told refl ∙ ap (leaves r Accepted) left_so
+      ∙ ap (λ (o : Outcome). leaves r o (row_made lent p r here)) (sym (accepted_before lent p r n early))
+      ∙ made lent p r here ∙ ranged_step lent p r ranged n at
+
+  -- the last
+  pub answers : a ≡ acted_as sizes (r ▸ status≔ idle_status) (Answered r.lost.pending) → in_range r ≡ true → r.lost.place ≡ 19 →
+      left lent a ≡ step lent p r
+  unfolding row place_of
+  answers is ranged at = ap (left lent) is ∙ made lent p r (row addresses (place_of 19) r) ∙ ranged_step lent p r ranged 19 at
+
+  pub unranged : a ≡ acted_as sizes r (Refused 8) → in_range r ≡ false → left lent a ≡ step lent p r
+  unfolding step turn_in
+  unranged is e = rw (is, e)

@@ -1,17 +1,17 @@
 // One action: the status that it needs, and what each does. Rests on the step.
 ghost use Rattle.std.specs.Prelude.{◌≡◌, ◌<◌, ◌+◌};
-ghost use Rattle.record.specs.declared.Process as spec;
 ghost use Rattle.record.specs.declared.Action.TheVariants as of;
 ghost use Rattle.table.specs.Words.{Memory, addresses≔, links≔, deleters≔, count≔, next_node, given_out};
 ghost use Rattle.table.specs.Events.{does, status_needed};
 ghost use Rattle.words.specs.LentMemory.{lent_memory};
 ghost use Rattle.list.specs.Acting.{left};
-ghost use Rattle.list.specs.Rows.{Within, one_more};
+ghost use Rattle.list.specs.Rows.{one_more};
 
-use crate::{Acted, answers, step};
+use crate::Acted;
+use crate::actor::Actor;
+use crate::answers::{accepted, refused};
 use record::{
-    Action, Address, DELETES, DOWN, FINDS, IDLE, INSERTS, NO_NODE, Node, Process, RUNNING, Record,
-    TAIL,
+    Action, Address, DELETES, DOWN, FINDS, IDLE, INSERTS, NO_NODE, Node, RUNNING, Refusal, TAIL,
 };
 use words::Sizes;
 
@@ -48,64 +48,65 @@ fn give_out(
     words::write(deleters, taken, 0);
 }
 
-// One node more given out.
-fn one_more(sizes: Sizes) -> Sizes
-    requires { Within sizes }
-    ensures { result ≡ one_more sizes }
-{
-    Sizes {
-        nodes: sizes.nodes,
-        processes: sizes.processes,
-        count: sizes.count + 1,
+impl Actor {
+    // One node more given out.
+    fn one_more(self) -> Sizes
+        ensures { result ≡ one_more self.sizes }
+    {
+        Sizes {
+            nodes: self.sizes.nodes,
+            processes: self.sizes.processes,
+            count: self.sizes.count + 1,
+        }
     }
-}
 
-// Insert: takes the next node, sets its address, links it unmarked to tail, deleter none.
-fn insert(
-    addresses: &mut [u32],
-    links: &mut [u32],
-    deleters: &mut [u32],
-    sizes: Sizes,
-    old: Record,
-    address: Address,
-) -> Acted
-    requires { Within sizes }
-    ensures { (p : spec.Process) → left (lent_memory addresses.new links.new deleters.new result.sizes) result ≡
-        does (lent_memory addresses.old links.old deleters.old sizes) p old (of.Insert address) }
-{
-    if sizes.count == sizes.nodes {
-        return answers::refused(sizes, old, 3);
+    // Insert: takes the next node, sets its address, links it unmarked to tail, deleter none.
+    fn insert(
+        self,
+        addresses: &mut [u32],
+        links: &mut [u32],
+        deleters: &mut [u32],
+        address: Address,
+    ) -> Acted
+        ensures { left (lent_memory addresses.new links.new deleters.new result.sizes) result ≡
+            does (lent_memory addresses.old links.old deleters.old self.sizes) self.process self.before (of.Insert address) }
+    {
+        if self.sizes.count == self.sizes.nodes {
+            return refused(self.sizes, self.before, Refusal::NoNodeLeft);
+        }
+        let taken = Node(self.sizes.count);
+        give_out(addresses, links, deleters, taken, address);
+        accepted(
+            self.one_more(),
+            self.before.request(0, INSERTS, address, taken),
+        )
     }
-    let taken = Node(sizes.count);
-    give_out(addresses, links, deleters, taken, address);
-    answers::accepted(one_more(sizes), old.request(0, INSERTS, address, taken))
-}
 
-// The action of a process that is there and has the status it needs.
-#[tactic(auto, unfolding(table::specs::Events::does))]
-pub(crate) fn does(
-    addresses: &mut [u32],
-    links: &mut [u32],
-    deleters: &mut [u32],
-    sizes: Sizes,
-    p: Process,
-    old: Record,
-    action: Action,
-) -> Acted
-    requires within { Within sizes }
-    requires p_bound { p.0 < 64 }
-    ensures { left (lent_memory addresses.new links.new deleters.new result.sizes) result ≡
-        does (lent_memory addresses.old links.old deleters.old sizes) p old action }
-{
-    match action {
-        Action::Insert(address) => insert(addresses, links, deleters, sizes, old, address),
-        Action::Delete(address) => answers::accepted(
-            sizes,
-            old.request(0, DELETES, address, NO_NODE),
-        ),
-        Action::Find(address) => answers::accepted(sizes, old.request(11, FINDS, address, NO_NODE)),
-        Action::Step => step::step(addresses, links, deleters, sizes, p, old),
-        Action::Stop => answers::accepted(sizes, old.goes_down()),
-        Action::Restart => answers::accepted(sizes, old.restarts()),
+    // The action of a process that is there and has the status it needs.
+    #[tactic(auto, unfolding(table::specs::Events::does))]
+    pub(crate) fn does(
+        self,
+        addresses: &mut [u32],
+        links: &mut [u32],
+        deleters: &mut [u32],
+        action: Action,
+    ) -> Acted
+        ensures { left (lent_memory addresses.new links.new deleters.new result.sizes) result ≡
+            does (lent_memory addresses.old links.old deleters.old self.sizes) self.process self.before action }
+    {
+        match action {
+            Action::Insert(address) => self.insert(addresses, links, deleters, address),
+            Action::Delete(address) => accepted(
+                self.sizes,
+                self.before.request(0, DELETES, address, NO_NODE),
+            ),
+            Action::Find(address) => accepted(
+                self.sizes,
+                self.before.request(11, FINDS, address, NO_NODE),
+            ),
+            Action::Step => self.step(addresses, links, deleters),
+            Action::Stop => accepted(self.sizes, self.before.goes_down()),
+            Action::Restart => accepted(self.sizes, self.before.restarts()),
+        }
     }
 }

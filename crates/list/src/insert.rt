@@ -1,41 +1,33 @@
 // Rows 3 and 4: insert. Rests on accesses.
-ghost use Rattle.std.specs.Prelude.{◌≡◌};
-ghost use Rattle.record.specs.declared.Process as spec;
+ghost use Rattle.std.specs.Prelude.{◌≡◌, List, ℕ};
 ghost use Rattle.table.specs.Words.{Memory, links≔};
-ghost use Rattle.table.specs.Events.{step};
-ghost use Rattle.words.specs.LentMemory.{sized};
-ghost use Rattle.list.specs.Acting.{left};
-ghost use Rattle.list.specs.Rows.{StandsAt, Within};
+ghost use Rattle.table.specs.Places.{row, place_of};
+ghost use Rattle.words.specs.LentMemory.{lent_memory};
+ghost use Rattle.list.specs.Rows.{RowLeaves};
 
 use crate::access::Field;
-use crate::{Acted, access, answers};
-use record::{Record, TRUE};
-use words::Sizes;
+use crate::actor::Actor;
+use record::{Record, TRUE, either};
 
-// Place 3: write own link.
-pub(crate) fn row_3(links: &mut [u32], sizes: Sizes, old: Record) -> Acted
-    requires stands_at { StandsAt 3 old }
-    requires within { Within sizes }
-    ensures { (m : Memory) → (p : spec.Process) → left (links≔ links.new m) result ≡ step (sized sizes (links≔ links.old m)) p old }
-{
-    let accepted = access::write_link(links, sizes, old, Field::Own, Field::Curr);
-    answers::turn(accepted, sizes, old, old.goes(4))
-}
+#[tactic(auto, unfolding(table::specs::Places::row, table::specs::Places::place_of, crate::specs::Rows::RowLeaves))]
+impl Actor {
+    // Place 3: write own link.
+    pub(crate) fn row_3(self, links: &mut [u32]) -> Option<Record>
+        ensures { RowLeaves 3 self.sizes self.process self.before (links≔ links.old) (links≔ links.new) result }
+    {
+        self.write_link(links, Field::Own, Field::Curr)?;
+        Some(self.before.goes(4))
+    }
 
-// Place 4: swap pred's link from curr to own.
-pub(crate) fn row_4(links: &mut [u32], sizes: Sizes, old: Record) -> Acted
-    requires stands_at { StandsAt 4 old }
-    requires within { Within sizes }
-    ensures { (m : Memory) → (p : spec.Process) → left (links≔ links.new m) result ≡ step (sized sizes (links≔ links.old m)) p old }
-{
-    let swap = access::swap_link(
-        links,
-        sizes,
-        old,
-        Field::Pred,
-        Field::Curr,
-        Field::Own,
-        false,
-    );
-    answers::swapped(swap, sizes, old, old.goes_with(18, TRUE), old.goes(0))
+    // Place 4: swap pred's link from curr to own.
+    pub(crate) fn row_4(self, links: &mut [u32]) -> Option<Record>
+        ensures { RowLeaves 4 self.sizes self.process self.before (links≔ links.old) (links≔ links.new) result }
+    {
+        let swap = self.swap_link(links, Field::Pred, Field::Curr, Field::Own, false)?;
+        Some(either(
+            swap.wrote,
+            self.before.goes_with(18, TRUE),
+            self.before.goes(0),
+        ))
+    }
 }

@@ -3,10 +3,11 @@
 
 ghost use Rattle.std.specs.Prelude.{◌≡◌};
 ghost use Rattle.table.specs.Events.{act};
-ghost use Rattle.words.specs.LentMemory.{lent_memory};
+ghost use Rattle.words.specs.LentMemory.{memory_of, SameTables};
 ghost use Rattle.list.specs.Acting.{left};
 
 mod access;
+mod actor;
 mod answers;
 mod delete;
 mod event;
@@ -16,8 +17,9 @@ mod recovery;
 mod search;
 mod step;
 
-use record::{Action, Outcome, Process, Record};
-use words::Sizes;
+use actor::Actor;
+use record::{Action, Outcome, Process, Record, Refusal};
+use words::{Sizes, Tables};
 
 // What an event leaves of the record and of the sizes, and its outcome.
 #[derive(Clone, Copy)]
@@ -30,27 +32,32 @@ pub struct Acted {
 // One event on the lent tables and one record, that of its process: refusals 7, 1, 2, 3, 8 in this order.
 #[tactic(auto, unfolding(table::specs::Events::act, table::specs::Events::refusal_in))]
 pub fn act(
-    addresses: &mut [u32],
-    links: &mut [u32],
-    deleters: &mut [u32],
+    tables: &mut Tables,
     sizes: Sizes,
     process: Process,
     record: Record,
     action: Action,
 ) -> Acted
-    ensures { left (lent_memory addresses.new links.new deleters.new result.sizes) result ≡
-        act (lent_memory addresses.old links.old deleters.old sizes) process «record» action }
+    ensures same { SameTables tables.old tables.new }
+    ensures left { left (memory_of tables.new result.sizes) result ≡
+        act (memory_of tables.old sizes) process «record» action }
 {
-    let fits = words::tables_fit(addresses, links, deleters, sizes);
-    if !fits {
-        return answers::refused(sizes, record, 7);
+    let addresses = &mut *tables.addresses;
+    let links = &mut *tables.links;
+    let deleters = &mut *tables.deleters;
+    if !words::tables_fit(addresses, links, deleters, sizes) {
+        return answers::refused(sizes, record, Refusal::BadSizes);
     }
     if sizes.processes <= process.0 {
-        return answers::refused(sizes, record, 1);
+        return answers::refused(sizes, record, Refusal::NoSuchProcess);
     }
-    let needed = event::status_needed(action);
-    if record.kept.status != needed {
-        return answers::refused(sizes, record, 2);
+    if record.kept.status != event::status_needed(action) {
+        return answers::refused(sizes, record, Refusal::WrongStatus);
     }
-    event::does(addresses, links, deleters, sizes, process, record, action)
+    let actor = Actor {
+        sizes,
+        process,
+        before: record,
+    };
+    actor.does(addresses, links, deleters, action)
 }

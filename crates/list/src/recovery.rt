@@ -1,116 +1,85 @@
 // Rows 13 to 17: recovery; rows 18 and 19: the answer. Rests on accesses.
-ghost use Rattle.std.specs.Prelude.{◌≡◌, ◌<◌};
-ghost use Rattle.record.specs.declared.Process as spec;
+ghost use Rattle.std.specs.Prelude.{◌≡◌, List, ℕ, ◌<◌, Some};
+ghost use Rattle.record.specs.Record.{◌▸◌, status≔, idle_status};
+ghost use Rattle.record.specs.declared.Outcome.TheVariants.{Answered};
 ghost use Rattle.table.specs.Words.{Memory, links≔, deleters≔};
-ghost use Rattle.table.specs.Events.{step};
-ghost use Rattle.words.specs.LentMemory.{sized};
-ghost use Rattle.list.specs.Acting.{left};
-ghost use Rattle.list.specs.Rows.{StandsAt};
+ghost use Rattle.table.specs.Places.{row, place_of};
+ghost use Rattle.words.specs.LentMemory.{lent_memory};
+ghost use Rattle.list.specs.Rows.{acted_as, RowLeaves};
 
+use crate::Acted;
 use crate::access::Field;
-use crate::{Acted, access, answers};
-use record::{DELETES, FAIL, INSERTS, NO_ANSWER, NO_NODE, Outcome, Process, Record};
-use words::Sizes;
+use crate::actor::Actor;
+use record::{DELETES, FAIL, INSERTS, NO_ANSWER, NO_NODE, Outcome, Record};
 
-// Place 13: read own record: it has its answer, it searches, it looks at its node, or it fails.
-#[tactic(auto, using(crate::proofs::ByPlace::row_13_lem))]
-pub(crate) fn row_13(sizes: Sizes, old: Record) -> Acted
-    requires { StandsAt 13 old }
-    ensures { (m : Memory) → (p : spec.Process) → left m result ≡ step (sized sizes m) p old }
-{
-    let result = old.kept.result;
-    let own = old.kept.node;
-    let pending = old.lost.pending;
-    let answered = result != NO_ANSWER;
-    let inserts = old.kept.kind == INSERTS;
-    let looks = (old.kept.kind == DELETES) & (own.0 != NO_NODE.0);
-    let place = answers::pick(
-        answered,
-        19,
-        answers::pick(inserts, 0, answers::pick(looks, 15, 19)),
-    );
-    let answer = answers::pick(
-        answered,
-        result,
-        answers::pick(inserts | looks, pending, FAIL),
-    );
-    answers::accepted(sizes, old.goes_with(place, answer))
-}
+#[tactic(auto, unfolding(table::specs::Places::row, table::specs::Places::place_of, crate::specs::Rows::RowLeaves))]
+impl Actor {
+    // Place 13: read own record: it has its answer, it searches, it looks at its node, or it fails.
+    pub(crate) fn row_13(self) -> Record
+        ensures { RowLeaves 13 self.sizes self.process self.before (λ m. m) (λ m. m) (Some result) }
+    {
+        if self.before.kept.result != NO_ANSWER {
+            return self.before.goes_with(19, self.before.kept.result);
+        }
+        if self.before.kept.kind == INSERTS {
+            return self.before.goes(0);
+        }
+        if self.before.kept.kind == DELETES && self.before.kept.node != NO_NODE {
+            return self.before.goes(15);
+        }
+        self.before.goes_with(19, FAIL)
+    }
 
-// Place 14: read own link.
-#[tactic(auto, using(crate::proofs::ByPlace::row_14_lem))]
-pub(crate) fn row_14(links: &[u32], sizes: Sizes, old: Record) -> Acted
-    requires { StandsAt 14 old }
-    ensures { (m : Memory) → (p : spec.Process) → left (links≔ links.now m) result ≡ step (sized sizes (links≔ links.now m)) p old }
-{
-    let read = access::read_link(links, sizes, old, Field::Own);
-    answers::turn(read.accepted, sizes, old, old.recovers(read.mark))
-}
+    // Place 14: read own link.
+    pub(crate) fn row_14(self, links: &[u32]) -> Option<Record>
+        ensures { RowLeaves 14 self.sizes self.process self.before (links≔ links.now) (links≔ links.now) result }
+    {
+        let read = self.read_link(links, Field::Own)?;
+        Some(self.before.recovers(read.mark))
+    }
 
-// Place 15: read own link.
-#[tactic(auto, using(crate::proofs::ByPlace::row_15_lem))]
-pub(crate) fn row_15(links: &[u32], sizes: Sizes, old: Record) -> Acted
-    requires { StandsAt 15 old }
-    ensures { (m : Memory) → (p : spec.Process) → left (links≔ links.now m) result ≡ step (sized sizes (links≔ links.now m)) p old }
-{
-    let read = access::read_link(links, sizes, old, Field::Own);
-    let place = answers::pick(read.mark, 16, 19);
-    let answer = answers::pick(read.mark, old.lost.pending, FAIL);
-    answers::turn(read.accepted, sizes, old, old.goes_with(place, answer))
-}
+    // Place 15: read own link.
+    pub(crate) fn row_15(self, links: &[u32]) -> Option<Record>
+        ensures { RowLeaves 15 self.sizes self.process self.before (links≔ links.now) (links≔ links.now) result }
+    {
+        let read = self.read_link(links, Field::Own)?;
+        if read.mark {
+            return Some(self.before.goes(16));
+        }
+        Some(self.before.goes_with(19, FAIL))
+    }
 
-// Place 16: swap own deleter from none to p.
-pub(crate) fn row_16(
-    links: &[u32],
-    deleters: &mut [u32],
-    sizes: Sizes,
-    p: Process,
-    old: Record,
-) -> Acted
-    requires stands_at { StandsAt 16 old }
-    requires p_bound { p.0 < 64 }
-    ensures { (m : Memory) → left (links≔ links.now (deleters≔ deleters.new m)) result ≡ step (sized sizes (links≔ links.now (deleters≔ deleters.old m))) p old }
-{
-    let swap = access::swap_deleter(links, deleters, sizes, p, old, Field::Own);
-    answers::turn(swap.accepted, sizes, old, old.goes(17))
-}
+    // Place 16: swap own deleter from none to p.
+    pub(crate) fn row_16(self, links: &[u32], deleters: &mut [u32]) -> Option<Record>
+        ensures { RowLeaves 16 self.sizes self.process self.before (λ m. links≔ links.now (deleters≔ deleters.old m)) (λ m. links≔ links.now (deleters≔ deleters.new m)) result }
+    {
+        self.swap_deleter(links, deleters, Field::Own)?;
+        Some(self.before.goes(17))
+    }
 
-// Place 17: read own deleter.
-#[tactic(auto, using(crate::proofs::ByPlace::row_17_lem))]
-pub(crate) fn row_17(
-    links: &[u32],
-    deleters: &[u32],
-    sizes: Sizes,
-    p: Process,
-    old: Record,
-) -> Acted
-    requires stands_at { StandsAt 17 old }
-    requires p_bound { p.0 < 64 }
-    ensures { (m : Memory) → left (links≔ links.now (deleters≔ deleters.now m)) result ≡ step (sized sizes (links≔ links.now (deleters≔ deleters.now m))) p old }
-{
-    let read = access::read_deleter(links, deleters, sizes, p, old, Field::Own);
-    answers::turn(read.accepted, sizes, old, old.recovers(read.mine))
-}
+    // Place 17: read own deleter.
+    pub(crate) fn row_17(self, links: &[u32], deleters: &[u32]) -> Option<Record>
+        ensures { RowLeaves 17 self.sizes self.process self.before (λ m. links≔ links.now (deleters≔ deleters.now m)) (λ m. links≔ links.now (deleters≔ deleters.now m)) result }
+    {
+        let mine = self.read_deleter(links, deleters, Field::Own)?;
+        Some(self.before.recovers(mine))
+    }
 
-// Place 18: the pending answer is written as the kept result.
-#[tactic(auto, using(crate::proofs::ByPlace::row_18_lem))]
-pub(crate) fn row_18(sizes: Sizes, old: Record) -> Acted
-    requires { StandsAt 18 old }
-    ensures { (m : Memory) → (p : spec.Process) → left m result ≡ step (sized sizes m) p old }
-{
-    answers::accepted(sizes, old.keeps_answer())
-}
+    // Place 18: the pending answer is written as the kept result.
+    pub(crate) fn row_18(self) -> Record
+        ensures { RowLeaves 18 self.sizes self.process self.before (λ m. m) (λ m. m) (Some result) }
+    {
+        self.before.keeps_answer()
+    }
 
-// Place 19: the pending answer is handed out.
-#[tactic(auto, using(crate::proofs::ByPlace::row_19_lem))]
-pub(crate) fn row_19(sizes: Sizes, old: Record) -> Acted
-    requires { StandsAt 19 old }
-    ensures { (m : Memory) → (p : spec.Process) → left m result ≡ step (sized sizes m) p old }
-{
-    let answer = old.lost.pending;
-    Acted {
-        advanced: old.rests(),
-        sizes,
-        outcome: Outcome::Answered(answer),
+    // Place 19: the pending answer is handed out.
+    pub(crate) fn row_19(self) -> Acted
+        ensures { result ≡ acted_as self.sizes (self.before ▸ status≔ idle_status) (Answered self.before.lost.pending) }
+    {
+        Acted {
+            advanced: self.before.rests(),
+            sizes: self.sizes,
+            outcome: Outcome::Answered(self.before.lost.pending),
+        }
     }
 }

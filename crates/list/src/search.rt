@@ -1,144 +1,73 @@
 // Rows 0 to 2: search. Rests on accesses.
-ghost use Rattle.std.specs.Prelude.{◌≡◌, cond};
-ghost use Rattle.record.specs.Record.{head_node};
-ghost use Rattle.record.specs.declared.Process as spec;
-ghost use Rattle.table.specs.Words.{Memory, addresses≔, links≔, in_use};
-ghost use Rattle.table.specs.Places as table;
-ghost use Rattle.table.specs.Steps.{usable};
-ghost use Rattle.table.specs.Events.{step};
-ghost use Rattle.words.specs.LentMemory.{sized};
-ghost use Rattle.words.specs.LentWords.{compared_of};
-ghost use Rattle.list.specs.Acting.{left};
-ghost use Rattle.list.specs.Accesses.{link_read};
-ghost use Rattle.list.specs.Rows.{StandsAt, Within, EndsAt};
+ghost use Rattle.std.specs.Prelude.{◌≡◌, List, ℕ};
+ghost use Rattle.table.specs.Words.{Memory, addresses≔, links≔, equal};
+ghost use Rattle.table.specs.Places.{row, place_of, search_ends};
+ghost use Rattle.words.specs.LentMemory.{lent_memory};
+ghost use Rattle.list.specs.Rows.{followed, RowLeaves};
+ghost use Rattle.record.specs.Record.{◌▸◌, succ≔};
 
 use crate::access::Field;
-use crate::{Acted, access, answers};
-use record::{FALSE, HEAD, INSERTS, Record, TRUE, either};
-use words::{Compared, LinkRead, Sizes};
+use crate::actor::Actor;
+use record::{FALSE, INSERTS, Node, Record, TRUE, either};
+use std::cmp::Ordering;
 
-// Where a search that ends goes, and the pending answer that it goes with.
-#[derive(Clone, Copy)]
-pub(crate) struct Goal {
-    pub(crate) place: u8,
-    pub(crate) answer: u8,
-}
-
-// The end of a search: recovering or not, at own or not, for an insert or not, at the address or not.
-#[tactic(auto, unfolding(crate::specs::Rows::EndsAt, table::specs::Places::search_ends))]
-fn search_ends(recovering: bool, at_own: bool, inserts: bool, same: bool, pending: u8) -> Goal
-    ensures { EndsAt recovering at_own inserts same pending result }
-{
-    let found = Goal {
-        place: 18,
-        answer: TRUE,
-    };
-    let refuted = Goal {
-        place: 18,
-        answer: FALSE,
-    };
-    if recovering {
-        if at_own {
-            return found;
-        }
-        return Goal {
-            place: 14,
-            answer: pending,
-        };
+#[tactic(auto, unfolding(table::specs::Places::row, table::specs::Places::place_of, crate::specs::Rows::RowLeaves, words::specs::LentWords::compared_of, table::specs::Places::search_ends))]
+impl Actor {
+    // Place 0: read head's link.
+    pub(crate) fn row_0(self, links: &[u32]) -> Option<Record>
+        ensures { RowLeaves 0 self.sizes self.process self.before (links≔ links.now) (links≔ links.now) result }
+    {
+        let read = self.read_link(links, Field::Head)?;
+        Some(self.before.from_head(read.target))
     }
-    if inserts {
+
+    // The end of a search, at the address or past it; succ is the target.
+    fn search_ends(self, links: &[u32], target: Node, same: bool) -> Option<Record>
+        ensures { (addresses deleters : List ℕ) → same ≡ equal addresses self.before.lost.curr self.before.kept.address →
+            result ≡ followed (lent_memory addresses links.now deleters self.sizes) self.before (search_ends addresses (self.before ▸ succ≔ target)) }
+    {
+        if self.before.lost.recovering {
+            self.usable(links, Field::Own)?;
+            if self.before.lost.curr == self.before.kept.node {
+                return Some(self.before.scans(target, false, 18, TRUE));
+            }
+            return Some(self.before.found(target, 14));
+        }
+        if self.before.kept.kind == INSERTS {
+            if same {
+                return Some(self.before.scans(target, false, 18, FALSE));
+            }
+            return Some(self.before.found(target, 3));
+        }
         if same {
-            return refuted;
+            return Some(self.before.found(target, 5));
         }
-        return Goal {
-            place: 3,
-            answer: pending,
-        };
+        Some(self.before.scans(target, false, 18, FALSE))
     }
-    if same {
-        return Goal {
-            place: 5,
-            answer: pending,
-        };
+
+    // Place 1: read curr's link; on to the next node, or the search ends.
+    pub(crate) fn row_1(self, addresses: &[u32], links: &[u32]) -> Option<Record>
+        ensures { RowLeaves 1 self.sizes self.process self.before (λ m. links≔ links.now (addresses≔ addresses.now m)) (λ m. links≔ links.now (addresses≔ addresses.now m)) result }
+    {
+        let read = self.read_link(links, Field::Curr)?;
+        if read.mark {
+            return Some(self.before.found(read.target, 2));
+        }
+        match words::compare(addresses, self.before.lost.curr, self.before.kept.address) {
+            Ordering::Less => Some(
+                self.before
+                    .scans(read.target, true, 1, self.before.lost.pending),
+            ),
+            Ordering::Equal => self.search_ends(links, read.target, true),
+            Ordering::Greater => self.search_ends(links, read.target, false),
+        }
     }
-    refuted
-}
 
-// Place 0: read head's link.
-#[tactic(auto, using(crate::proofs::ByPlace::row_0_lem))]
-pub(crate) fn row_0(links: &[u32], sizes: Sizes, old: Record) -> Acted
-    requires { StandsAt 0 old }
-    ensures { (m : Memory) → (p : spec.Process) → left (links≔ links.now m) result ≡ step (sized sizes (links≔ links.now m)) p old }
-{
-    let read = access::read_link(links, sizes, old, Field::Head);
-    answers::turn(read.accepted, sizes, old, old.from_head(read.target))
-}
-
-// What place 1 makes of the link that it read, of how curr stands to the address, and of whether own may be used.
-fn scan(sizes: Sizes, old: Record, read: LinkRead, order: Compared, own_usable: bool) -> Acted
-    requires { StandsAt 1 old }
-    ensures { (m : Memory) → (p : spec.Process) →
-        read ≡ link_read (sized sizes m) old table.curr →
-        order ≡ compared_of m.addresses (cond read.accepted old.lost.curr head_node) old.kept.address →
-        own_usable ≡ usable (in_use (sized sizes m)) old table.own →
-        left m result ≡ step (sized sizes m) p old }
-{
-    let pending = old.lost.pending;
-    let recovering = old.lost.recovering;
-    let ends = search_ends(
-        recovering,
-        old.lost.curr.0 == old.kept.node.0,
-        old.kept.kind == INSERTS,
-        order.equal,
-        pending,
-    );
-    let passes = read.mark | order.below;
-    let fits = read.accepted & (passes | !recovering | own_usable);
-    let place = answers::pick(read.mark, 2, answers::pick(order.below, 1, ends.place));
-    let answer = answers::pick(passes, pending, ends.answer);
-    let left = old.scans(
-        either(fits, read.target, old.lost.succ),
-        fits & !read.mark & order.below,
-        answers::pick(fits, place, old.lost.place),
-        answers::pick(fits, answer, pending),
-    );
-    answers::judged(fits, sizes, left)
-}
-
-// Place 1: read curr's link; on to the next node, or the search ends. An address is looked at only where the link was accepted.
-pub(crate) fn row_1(addresses: &[u32], links: &[u32], sizes: Sizes, old: Record) -> Acted
-    requires { StandsAt 1 old }
-    ensures { (m : Memory) → (p : spec.Process) → left (links≔ links.now (addresses≔ addresses.now m)) result ≡ step (sized sizes (links≔ links.now (addresses≔ addresses.now m))) p old }
-{
-    let read = access::read_link(links, sizes, old, Field::Curr);
-    let order = words::compare(
-        addresses,
-        either(read.accepted, old.lost.curr, HEAD),
-        old.kept.address,
-    );
-    scan(
-        sizes,
-        old,
-        read,
-        order,
-        access::usable(links, sizes, old, Field::Own),
-    )
-}
-
-// Place 2: swap pred's link from curr to succ.
-pub(crate) fn row_2(links: &mut [u32], sizes: Sizes, old: Record) -> Acted
-    requires stands_at { StandsAt 2 old }
-    requires within { Within sizes }
-    ensures { (m : Memory) → (p : spec.Process) → left (links≔ links.new m) result ≡ step (sized sizes (links≔ links.old m)) p old }
-{
-    let swap = access::swap_link(
-        links,
-        sizes,
-        old,
-        Field::Pred,
-        Field::Curr,
-        Field::Succ,
-        false,
-    );
-    answers::swapped(swap, sizes, old, old.unlinked(), old.goes(0))
+    // Place 2: swap pred's link from curr to succ.
+    pub(crate) fn row_2(self, links: &mut [u32]) -> Option<Record>
+        ensures { RowLeaves 2 self.sizes self.process self.before (links≔ links.old) (links≔ links.new) result }
+    {
+        let swap = self.swap_link(links, Field::Pred, Field::Curr, Field::Succ, false)?;
+        Some(either(swap.wrote, self.before.unlinked(), self.before.goes(0)))
+    }
 }

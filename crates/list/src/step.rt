@@ -1,91 +1,72 @@
 // One step: the record's ranges, then one match on the place with ranges, which chooses among the twenty rows. Rests on the rows.
-ghost use Rattle.std.specs.Prelude.{◌≡◌, true, ◌<◌};
-ghost use Rattle.table.specs.Words.{Memory, addresses≔, links≔, deleters≔};
+ghost use Rattle.std.specs.Prelude.{◌≡◌, true};
 ghost use Rattle.table.specs.Steps.{in_range};
 ghost use Rattle.table.specs.Events.{step};
-ghost use Rattle.words.specs.LentMemory.{sized};
+ghost use Rattle.words.specs.LentMemory.{lent_memory};
 ghost use Rattle.list.specs.Acting.{left};
-ghost use Rattle.list.specs.Rows.{Within};
 
-use crate::{Acted, answers, delete, find, insert, recovery, search};
-use record::{Process, Record};
-use words::Sizes;
+use crate::Acted;
+use crate::actor::Actor;
+use crate::answers::refused;
+use record::Refusal;
 
-// The row of a record whose fields are in their ranges. The places of inserts and deletes, 0 to 10, stand under one range: no arm is then so deep that
-// the compiler takes it for rare and leaves its row a call, for which it would hold every record in memory.
-fn row(
-    addresses: &[u32],
-    links: &mut [u32],
-    deleters: &mut [u32],
-    sizes: Sizes,
-    p: Process,
-    old: Record,
-) -> Acted
-    requires value { in_range old ≡ true }
-    requires within { Within sizes }
-    requires p_bound { p.0 < 64 }
-    ensures { (m : Memory) →
-        left (deleters≔ deleters.new (links≔ links.new (addresses≔ addresses.now m))) result ≡
-        step (sized sizes (deleters≔ deleters.old (links≔ links.old (addresses≔ addresses.now m)))) p old }
-{
-    let place = old.lost.place;
-    match place {
-        0..=10 => match place {
-            0..=2 => match place {
-                0 => search::row_0(links, sizes, old),
-                1 => search::row_1(addresses, links, sizes, old),
-                _ => search::row_2(links, sizes, old),
+impl Actor {
+    // The row of a record whose fields are in their ranges. The places of inserts and deletes, 0 to 10, stand under one range: no arm is then so deep
+    // that the compiler takes it for rare and leaves its row a call, for which it would hold every record in memory.
+    fn row(self, addresses: &[u32], links: &mut [u32], deleters: &mut [u32]) -> Acted
+        requires { in_range self.before ≡ true }
+        ensures { left (lent_memory addresses.now links.new deleters.new self.sizes) result ≡
+            step (lent_memory addresses.now links.old deleters.old self.sizes) self.process self.before }
+    {
+        let place = self.before.lost.place;
+        match place {
+            0..=10 => match place {
+                0..=2 => match place {
+                    0 => self.turned(self.row_0(links)),
+                    1 => self.turned(self.row_1(addresses, links)),
+                    _ => self.turned(self.row_2(links)),
+                },
+                3..=4 => match place {
+                    3 => self.turned(self.row_3(links)),
+                    _ => self.turned(self.row_4(links)),
+                },
+                _ => match place {
+                    5 => self.turned(self.row_5(links)),
+                    6 => self.turned(self.row_6(links)),
+                    7 => self.turned(self.row_7(links)),
+                    8 => self.turned(self.row_8(links)),
+                    9 => self.turned(self.row_9(links, deleters)),
+                    _ => self.turned(self.row_10(links, deleters)),
+                },
             },
-            3..=4 => match place {
-                3 => insert::row_3(links, sizes, old),
-                _ => insert::row_4(links, sizes, old),
+            11..=12 => match place {
+                11 => self.turned(self.row_11(addresses, links)),
+                _ => self.turned(self.row_12(links)),
             },
-            _ => match place {
-                5 => delete::row_5(links, sizes, old),
-                6 => delete::row_6(links, sizes, old),
-                7 => delete::row_7(links, sizes, old),
-                8 => delete::row_8(links, sizes, old),
-                9 => delete::row_9(links, deleters, sizes, p, old),
-                _ => delete::row_10(links, deleters, sizes, p, old),
+            13..=17 => match place {
+                13 => self.turned(Some(self.row_13())),
+                14 => self.turned(self.row_14(links)),
+                15 => self.turned(self.row_15(links)),
+                16 => self.turned(self.row_16(links, deleters)),
+                _ => self.turned(self.row_17(links, deleters)),
             },
-        },
-        11..=12 => match place {
-            11 => find::row_11(addresses, links, sizes, old),
-            _ => find::row_12(links, sizes, old),
-        },
-        13..=17 => match place {
-            13 => recovery::row_13(sizes, old),
-            14 => recovery::row_14(links, sizes, old),
-            15 => recovery::row_15(links, sizes, old),
-            16 => recovery::row_16(links, deleters, sizes, p, old),
-            _ => recovery::row_17(links, deleters, sizes, p, old),
-        },
-        18..=19 => match place {
-            18 => recovery::row_18(sizes, old),
-            _ => recovery::row_19(sizes, old),
-        },
-        _ => answers::refused(sizes, old, 8),
+            18..=19 => match place {
+                18 => self.turned(Some(self.row_18())),
+                _ => self.row_19(),
+            },
+            _ => refused(self.sizes, self.before, Refusal::Broken),
+        }
     }
-}
 
-// One step of a running process: its row, or refusal 8 for a record out of its ranges.
-pub(crate) fn step(
-    addresses: &[u32],
-    links: &mut [u32],
-    deleters: &mut [u32],
-    sizes: Sizes,
-    p: Process,
-    old: Record,
-) -> Acted
-    requires within { Within sizes }
-    requires p_bound { p.0 < 64 }
-    ensures { (m : Memory) →
-        left (deleters≔ deleters.new (links≔ links.new (addresses≔ addresses.now m))) result ≡
-        step (sized sizes (deleters≔ deleters.old (links≔ links.old (addresses≔ addresses.now m)))) p old }
-{
-    let ranged = words::in_range(old);
-    if ranged {
-        return row(addresses, links, deleters, sizes, p, old);
+    // One step of a running process: its row, or refusal 8 for a record out of its ranges.
+    #[tactic(auto, using(crate::proofs::Turns::unranged))]
+    pub(crate) fn step(self, addresses: &[u32], links: &mut [u32], deleters: &mut [u32]) -> Acted
+        ensures { left (lent_memory addresses.now links.new deleters.new self.sizes) result ≡
+            step (lent_memory addresses.now links.old deleters.old self.sizes) self.process self.before }
+    {
+        if !words::in_range(self.before) {
+            return refused(self.sizes, self.before, Refusal::Broken);
+        }
+        self.row(addresses, links, deleters)
     }
-    answers::refused(sizes, old, 8)
 }

@@ -5,7 +5,7 @@ use mathlib.Core.Path.{◌≡◌, refl, ap, sym, ◌∙◌}
 use native.Mathlib.Omega.{arith}
 use lib.ListN.{length, drop, length-drop}
 use Rattle.numbers.specs.Numbers.{Read, got, stops, read_number}
-use Rattle.numbers.specs.ReadAt.{NumberRead, Got, Refused, place_in, number_read, number_at}
+use Rattle.numbers.specs.ReadAt.{Got, Refused, place_in, number_read, number_at}
 use Rattle.numbers.proofs.Follows.{Takes, number_takes, left_follows}
 
 -- the place of the bytes from a place on
@@ -24,23 +24,22 @@ by_read file at n next (got m left) f e is =
     let place : place_in file left ≡ next = cc in
     let left_is : left ≡ drop next file = sym (left_follows file at left f) ∙ ap (λ (k : ℕ). drop k file) place in
     record { reads = e ∙ (λ i. got (value i) (left_is i)); inside = omega arith }
-by_read file at n next (stops m) f e is = let z : ◌≡◌ {A = ℕ} 0 1 = cc in absurd (omega arith)
+by_read file at n next (stops m) f e is = cc
 
 by_stop : (file : List ℕ) (at n : ℕ) (r : Read ℕ) → read_number (drop at file) ≡ r
     → number_read (place_in file) r ≡ Refused n → read_number (drop at file) ≡ stops n
-by_stop file at n (got m left) e is = let z : ◌≡◌ {A = ℕ} 0 1 = cc in absurd (omega arith)
+by_stop file at n (got m left) e is = cc
 by_stop file at n (stops m) e is = cc
 
--- of what `read_number` answered
+-- of what `read_number` answers there
 module _ (file : List ℕ) (at n : ℕ) where
-  pub got_number : (next : ℕ) (read : NumberRead) → read ≡ number_at file at → read ≡ Got n next → GotAt file at n next
+  pub got_number : (next : ℕ) → Got n next ≡ number_at file at → GotAt file at n next
   unfolding number_at
-  got_number next read is e =
-      by_read file at n next (read_number (drop at file)) (number_takes (drop at file)) refl (sym is ∙ e)
+  got_number next is = by_read file at n next (read_number (drop at file)) (number_takes (drop at file)) refl (sym is)
 
-  pub refused_number : (read : NumberRead) → read ≡ number_at file at → read ≡ Refused n → read_number (drop at file) ≡ stops n
+  pub refused_number : Refused n ≡ number_at file at → read_number (drop at file) ≡ stops n
   unfolding number_at
-  refused_number read is e = by_stop file at n (read_number (drop at file)) refl (sym is ∙ e)
+  refused_number is = by_stop file at n (read_number (drop at file)) refl (sym is)
 
-  pub number_inside : (next : ℕ) (read : NumberRead) → read ≡ number_at file at → read ≡ Got n next → next ≤ length file
-  number_inside next read is e = (got_number next read is e).inside
+  pub number_inside : (next : ℕ) → Got n next ≡ number_at file at → next ≤ length file
+  number_inside next is = (got_number next is).inside

@@ -53,17 +53,17 @@ pub fn read_number(bytes: &[u8], at: usize) -> Result<(u32, usize), Refusal>
 {
     let mut groups = [0u8; 5];
     let mut next = at;
-    for count in 0..5 {
+    for (count, group) in groups.iter_mut().enumerate() {
         if bytes.len() <= next {
             return Err(Refusal::CutShort);
         }
         let byte = bytes[next];
         next += 1;
         if byte < 128 {
-            groups[count] = byte;
+            *group = byte;
             return judge(groups, count, next);
         }
-        groups[count] = byte - 128;
+        *group = byte - 128;
     }
     Err(Refusal::BadNumber)
 }

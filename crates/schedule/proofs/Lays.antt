@@ -9,18 +9,18 @@ use borrow.Author.Tests.{le-leb, lt-leb}
 use lib.Dec.{leb}
 use lib.ListN.{length, take, drop, length-drop, take-append-drop}
 use lib.Seq.{take-length, length-take-le}
+use Rattle.std.specs.Prelude.{Some, None, Result, Ok, Err}
 use Rattle.record.specs.declared.Event.{Event}
+use Rattle.record.specs.declared.Refusal.{Refusal}
 use Rattle.basics.proofs.Rest.{rest_is, rest_back}
 use Rattle.table.specs.Events.{sizes_fit}
 use Rattle.basics.proofs.Tests.{if_le}
 use Rattle.numbers.specs.Numbers.{number_bytes}
 use Rattle.schedule.specs.declared.Header.{Header}
-use Rattle.schedule.specs.declared.Written.{Written}
-use Rattle.schedule.specs.declared.Written.TheVariants.{Next, Refused}
 use Rattle.schedule.specs.declared.writing.Numbers.{Numbers}
 use Rattle.schedule.specs.Encoding.{header_bytes, event_bytes}
 use Rattle.schedule.specs.Writing.{Wrote, room, laid, wrote, answered, put_at, written_header, written_event}
-use Rattle.schedule.specs.Inside.Laying.{two, tail_bytes, bytes_of, fitted, all_or_none, put_in_rest}
+use Rattle.schedule.specs.Inside.Laying.{tail_bytes, bytes_of, fitted, all_or_none, put_in_rest}
 use Rattle.schedule.proofs.BytesNeeded.{tail_of_two, tail_of_three}
 
 -- ---- bytes laid as far as there is room
@@ -59,14 +59,14 @@ fitted_then a b out mid new at e n f =
 
 -- the second number, and the third where there is one
 module _ (x : Numbers) (out mid : List ℕ) (e : mid ≡ fitted (number_bytes x.second) out) where
-  pub two_laid : x.three ≡ false → mid ≡ fitted (tail_bytes x) out
+  pub two_laid : x.third ≡ None → mid ≡ fitted (tail_bytes x) out
   two_laid is = rw (tail_of_two x is) e
 
-  pub three_laid : (new : List ℕ) (at : ℕ) → x.three ≡ true → at ≡ min (length (number_bytes x.second)) (length out)
-      → new ≡ fitted (number_bytes x.third) (take (length mid - at) (drop at mid))
+  pub three_laid : (third : ℕ) → x.third ≡ Some third → (new : List ℕ) (at : ℕ) → at ≡ min (length (number_bytes x.second)) (length out)
+      → new ≡ fitted (number_bytes third) (take (length mid - at) (drop at mid))
       → put_mid at (length mid - at) mid new ≡ fitted (tail_bytes x) out
-  three_laid new at is n f =
-      rw (tail_of_three x is) (fitted_then (number_bytes x.second) (number_bytes x.third) out mid new at e n f)
+  three_laid third is new at n f =
+      rw (tail_of_three x third is) (fitted_then (number_bytes x.second) (number_bytes third) out mid new at e n f)
 
 -- ---- all the bytes in the rest of the output, or none
 
@@ -106,9 +106,9 @@ module _ (bytes rest new : List ℕ) (at needed left count : ℕ)
 abbrev with_front : List ℕ → Wrote → Wrote
 with_front front w = wrote (front ++ w.output) w.at w.refusal
 
-answered_with_front : (front new : List ℕ) (at : ℕ) (r : Written) → answered (front ++ new) at r ≡ with_front front (answered new at r)
-answered_with_front front new at (Next next) = refl
-answered_with_front front new at (Refused n) = refl
+answered_with_front : (front new : List ℕ) (at : ℕ) (r : Result ℕ Refusal) → answered (front ++ new) at r ≡ with_front front (answered new at r)
+answered_with_front front new at (Ok next) = refl
+answered_with_front front new at (Err refusal) = refl
 
 put_with_front : (fits : Bool) (bytes out : List ℕ) (at : ℕ)
     → with_front (take at out) (cond fits (wrote (laid bytes (drop at out) 0) (at + length bytes) 0) (wrote (drop at out) at 9))
@@ -116,7 +116,7 @@ put_with_front : (fits : Bool) (bytes out : List ℕ) (at : ℕ)
 put_with_front true bytes out at = refl
 put_with_front false bytes out at = ap (λ (l : List ℕ). wrote l at 9) (take-append-drop at out)
 
-pub put_in_rest_lem : (bytes out new : List ℕ) (at : ℕ) (r : Written)
+pub put_in_rest_lem : (bytes out new : List ℕ) (at : ℕ) (r : Result ℕ Refusal)
     → answered new at r ≡ put_in_rest bytes (take (length out - at) (drop at out)) at
     → answered (put_mid at (length out - at) out new) at r ≡ put_at bytes out at
 unfolding put_at put_in_rest
@@ -139,8 +139,7 @@ module _ (h : Header) (out : List ℕ) (at : ℕ) (fit : Bool) (is : fit ≡ siz
   unfolding written_header
   header_refused e = rw (← is, e)
 
-  pub header_put : fit ≡ true → (x : Numbers) → x ≡ two h.nodes h.processes → (w : Wrote) → w ≡ put_at (bytes_of x) out at
-      → w ≡ written_header h out at
+  pub header_put : fit ≡ true → (w : Wrote)
+      → w ≡ put_at (bytes_of (record { first = h.nodes; second = h.processes; third = None })) out at → w ≡ written_header h out at
   unfolding written_header header_bytes
-  header_put e x is-two w is-put =
-      rw (← is, e) (is-put ∙ rw (is-two, append-nil (number_bytes h.processes)))
+  header_put e w is-put = rw (← is, e) (is-put ∙ rw (append-nil (number_bytes h.processes)))

@@ -19,10 +19,18 @@ pub record Putting (bytes found out : List ℕ) (rest at : ℕ) : Type 0 where
   pub to_come_lem : drop at bytes ≡ number_bytes rest
   pub inside : at < length bytes
   pub fits : at ≤ length found
+  pub small : rest < 4294967296
 
-pub none_put : (found : List ℕ) (n : ℕ) → Putting (number_bytes n) found found n 0
-none_put found n =
-    record { same_length = refl; so_far = refl; to_come_lem = refl; inside = omega (arith, number_size n); fits = omega arith }
+pub none_put : (found : List ℕ) (n : ℕ) → n < 4294967296 → Putting (number_bytes n) found found n 0
+none_put found n small =
+    record {
+      same_length = refl;
+      so_far = refl;
+      to_come_lem = refl;
+      inside = omega (arith, number_size n);
+      fits = omega arith;
+      small = small;
+    }
 
 module _ (bytes found out : List ℕ) (rest at : ℕ) (here : at < length out) (p : Putting bytes found out rest at) where
   next_byte : (b : ℕ) (more : List ℕ) → number_bytes rest ≡ b ∷ more → (get_or bytes at 0 ≡ b) × (drop (at + 1) bytes ≡ more)
@@ -35,28 +43,38 @@ module _ (bytes found out : List ℕ) (rest at : ℕ) (here : at < length out) (
   stands b e =
       rw (p.so_far, ← e) (copy_more found bytes at (omega (arith, p.same_length)) p.inside)
 
-  pub one_put : 128 ≤ rest → rest < 4294967296 → Putting bytes found (set out at (128 + rest % 128)) (rest / 128) (at + 1)
-  one_put h small =
-      let next = next_byte (128 + rest % 128) (number_bytes (rest / 128)) (number_more rest h small) in
+  pub one_put : 128 ≤ rest → Putting bytes found (set out at (128 + rest % 128)) (rest / 128) (at + 1)
+  one_put h =
+      let next = next_byte (128 + rest % 128) (number_bytes (rest / 128)) (number_more rest h p.small) in
       record {
         same_length = length-set out at (128 + rest % 128) ∙ p.same_length;
         so_far = stands (128 + rest % 128) next.0;
         to_come_lem = next.1;
         inside = omega (arith, ap length next.1, length-drop (at + 1) bytes, number_size (rest / 128));
         fits = omega (arith, p.same_length);
+        small = omega (arith, p.small);
       }
 
-  pub last_put : rest < 128 → (set out at rest ≡ fitted bytes found) × (at + 1 ≡ min (length bytes) (length found))
-  last_put h =
-      let next = next_byte rest [] (number_last rest h) in
-      let whole : at + 1 ≡ length bytes = omega (arith, ap length next.1, length-drop (at + 1) bytes, p.inside) in
-      let fits : length bytes ≤ length found = omega (arith, p.same_length) in
-      (stands rest next.0 ∙ rw (whole, take-length) (sym (fitted_whole bytes found fits)), omega arith)
+  module _ (last : rest < 128) where
+    last_byte : (get_or bytes at 0 ≡ rest) × (drop (at + 1) bytes ≡ [])
+    last_byte = next_byte rest [] (number_last rest last)
+
+    whole : at + 1 ≡ length bytes
+    whole = omega (arith, ap length last_byte.1, length-drop (at + 1) bytes, p.inside)
+
+    pub last_put : set out at rest ≡ fitted bytes found
+    last_put =
+        stands rest last_byte.0 ∙ rw (whole, take-length) (sym (fitted_whole bytes found (omega (arith, p.same_length, whole))))
+
+    pub last_count : at + 1 ≡ min (length bytes) (length found)
+    last_count = omega (arith, p.same_length, whole)
 
 -- the end of what was lent, before the end of the number
 pub full_put : (bytes found out : List ℕ) (rest at : ℕ) → length out ≤ at → Putting bytes found out rest at
-    → (out ≡ fitted bytes found) × (at ≡ min (length bytes) (length found))
+    → (out ≡ fitted bytes found) × (length out ≡ min (length bytes) (length found))
 full_put bytes found out rest at full p =
     let all : at ≡ length found = omega (arith, p.same_length, p.fits) in
     let part : length found ≤ length bytes = omega (arith, p.inside) in
-    (p.so_far ∙ rw (drop_of_length-le found {i = at} (omega arith), append-nil, all) (sym (fitted_full bytes found part)), omega arith)
+    (p.so_far ∙ rw (drop_of_length-le found {i = at} (omega arith), append-nil, all) (sym (fitted_full bytes found part)), omega (arith, p.same_length))
+
+pub ruleset putting = (none_put, last_put, last_count, full_put)

@@ -1,4 +1,4 @@
--- Reading by a cursor: the header, and one event after another, a burst handed out as its steps. Rests on Reading.
+-- Reading by a cursor: the header, and one event after another, a burst handed out as its steps. Rests on Reading, HeaderRead and EventRead.
 use Rattle.std.specs.Prelude.{cond, List, [], ℕ, ◌-◌, ltb, length, drop}
 use Rattle.record.specs.Record.{process}
 use Rattle.record.specs.declared.Process.{Process}
@@ -8,10 +8,10 @@ use Rattle.numbers.specs.Numbers.{Read, got, stops}
 use Rattle.numbers.specs.ReadAt.{place_in}
 use Rattle.schedule.specs.declared.Header.{Header}
 use Rattle.schedule.specs.declared.Cursor.{Cursor}
-use Rattle.schedule.specs.declared.HeaderRead.{HeaderRead}
-use Rattle.schedule.specs.declared.HeaderRead.TheVariants as header
-use Rattle.schedule.specs.declared.EventRead.{EventRead}
-use Rattle.schedule.specs.declared.EventRead.TheVariants as event
+use Rattle.schedule.specs.HeaderRead.{HeaderRead}
+use Rattle.schedule.specs.HeaderRead as header
+use Rattle.schedule.specs.EventRead.{EventRead}
+use Rattle.schedule.specs.EventRead as event
 use Rattle.schedule.specs.Encoding.{single, burst}
 use Rattle.schedule.specs.Reading.{read_header, NextItem, end, item, refuses, next_item}
 
@@ -27,8 +27,7 @@ cursor_at at = cursor_in at (process 0) 0
 abbrev pub start : Cursor
 start = cursor_at 0
 
--- ---- the answers: "Where an answer is an enum, a definition sets out this paper's number and values for each of its cases."; here by what was
--- read, and the place of the bytes left
+-- ---- the answers, by what was read, and the place of the bytes left
 
 -- a header with the cursor after it, or the refusal's number
 abbrev pub header_read : (place : List ℕ → ℕ) → Read Header → HeaderRead

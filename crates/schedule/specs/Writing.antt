@@ -1,11 +1,11 @@
--- 01, "The writer": what it leaves of the output, with refusals 7 and 9. Rests on Encoding.
-use Rattle.std.specs.Prelude.{cond, List, ◌++◌, ℕ, ◌+◌, ◌-◌, min, leb, length, take, drop}
+-- 01, "The writer": what it leaves of the output, with refusals 7 and 9. Rests on Encoding and on the refusals' numbers.
+use Rattle.std.specs.Prelude.{cond, List, ◌++◌, ℕ, ◌+◌, ◌-◌, min, leb, length, take, drop, Result, Ok, Err}
 use Rattle.basics.specs.Over.{over}
 use Rattle.record.specs.declared.Event.{Event}
+use Rattle.record.specs.declared.Refusal.{Refusal}
+use Rattle.record.specs.Refusal.{number_of}
 use Rattle.table.specs.Events.{sizes_fit}
 use Rattle.schedule.specs.declared.Header.{Header}
-use Rattle.schedule.specs.declared.Written.{Written}
-use Rattle.schedule.specs.declared.Written.TheVariants.{Next, Refused}
 use Rattle.schedule.specs.Encoding.{header_bytes, event_bytes}
 
 -- what the writer leaves: the output, the place for what comes next, and the refusal's number, 0 for none
@@ -17,10 +17,11 @@ pub record Wrote : Type 0 where
 abbrev pub wrote : List ℕ → ℕ → ℕ → Wrote
 wrote output at refusal = record { output = output; at = at; refusal = refusal }
 
--- the writer's answer, in numbers: the next place with no refusal, or the refusal's number at the place as it was
-abbrev pub answered : List ℕ → ℕ → Written → Wrote
-answered output at (Next next) = wrote output next 0
-answered output at (Refused n) = wrote output at n
+-- "Where an answer is an enum, a definition sets out this paper's number and values for each of its cases.": of the writer's answer, the next
+-- place with no refusal, or the refusal's number at the place as it was
+abbrev pub answered : List ℕ → ℕ → Result ℕ Refusal → Wrote
+answered output at (Ok next) = wrote output next 0
+answered output at (Err refusal) = wrote output at (number_of refusal)
 
 -- "A start past the output leaves none; bytes past 65,536 count as absent."
 abbrev pub room : List ℕ → ℕ → ℕ

@@ -1,14 +1,15 @@
 // Schedule files of 01. The definitions of the bytes are in specs/.
 #![tactic(auto)]
 
+mod kind;
 mod reading;
 mod writing;
 
 ghost use Rattle.std.specs.Prelude.{◌≡◌};
-ghost use Rattle.schedule.specs.Cursors.{start};
+ghost use Rattle.schedule.specs.Cursors.{cursor_at, start};
 
 pub use reading::{read_event, read_header};
-use record::{Event, Process};
+use record::Process;
 pub use writing::{write_event, write_header};
 
 // The sizes that a schedule asks for.
@@ -26,35 +27,20 @@ pub struct Cursor {
     pub left: u32,
 }
 
-// A header with the cursor after it, or the refusal's number.
-#[derive(Clone, Copy)]
-pub enum HeaderRead {
-    Got(Header, Cursor),
-    Refused(u8),
-}
-
-// An event with the cursor after it, the end of the file, or the refusal's number.
-#[derive(Clone, Copy)]
-pub enum EventRead {
-    Got(Event, Cursor),
-    End,
-    Refused(u8),
-}
-
-// The place after what was written, or the refusal's number.
-#[derive(Clone, Copy)]
-pub enum Written {
-    Next(usize),
-    Refused(u8),
-}
-
 impl Cursor {
     // Before the header.
     pub fn start() -> Cursor
         ensures { result ≡ start }
     {
+        Cursor::outside_burst(0)
+    }
+
+    // At a place, outside a burst.
+    fn outside_burst(at: usize) -> Cursor
+        ensures { result ≡ cursor_at at }
+    {
         Cursor {
-            at: 0,
+            at,
             process: Process(0),
             left: 0,
         }

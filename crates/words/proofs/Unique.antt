@@ -7,6 +7,7 @@ use Prim.Native.Nat.{ℕ}
 use Rattle.record.specs.declared.Node.{Node}
 use Rattle.table.specs.Words.{Memory, links≔, in_use, fresh_memory}
 use Rattle.words.specs.declared.Sizes.{Sizes}
+use Rattle.std.specs.Prelude.{Option}
 use Rattle.words.specs.declared.LinkRead.{LinkRead}
 use Rattle.words.specs.declared.Swapped.{Swapped}
 use Rattle.words.specs.LentMemory.{sized}
@@ -31,7 +32,7 @@ pub in_use_unique : (links : List ℕ) (sizes : Sizes) (n : Node) (a b : Bool) �
     a ≡ b
 in_use_unique links sizes n a b = one_for_all (λ (m : Memory). in_use (sized sizes (links≔ links m)) n) a b
 
-pub link_met_unique : (links : List ℕ) (sizes : Sizes) (n : Node) (a b : LinkRead) →
+pub link_met_unique : (links : List ℕ) (sizes : Sizes) (n : Node) (a b : Option LinkRead) →
     ((m : Memory) → a ≡ link_met (sized sizes (links≔ links m)) n) →
     ((m : Memory) → b ≡ link_met (sized sizes (links≔ links m)) n) →
     a ≡ b

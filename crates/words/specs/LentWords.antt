@@ -1,10 +1,10 @@
 -- What is asked of lent words, spelt with this crate's types. Rests on the table's Words.
-use Rattle.std.specs.Prelude.{Bool, true, false, cond, List, ℕ, ltb, get_or, set}
-use Rattle.record.specs.Record.{no_node}
+use Rattle.std.specs.Prelude.{Bool, cond, List, ℕ, ltb, get_or, set, Option, Some, None}
+use Rattle.std.specs.declared.cmp.Ordering.{Ordering}
+use Rattle.std.specs.declared.cmp.Ordering.TheVariants.{Less, Equal, Greater}
 use Rattle.record.specs.declared.Node.{Node}
 use Rattle.record.specs.declared.Address.{Address}
 use Rattle.table.specs.Words.{Memory, link_at, target_of, is_marked, in_use, swaps, below, equal}
-use Rattle.words.specs.declared.Compared.{Compared}
 use Rattle.words.specs.declared.LinkRead.{LinkRead}
 use Rattle.words.specs.declared.Swapped.{Swapped}
 
@@ -12,19 +12,15 @@ use Rattle.words.specs.declared.Swapped.{Swapped}
 unfoldable pub slot_of : (processes process : ℕ) → ℕ
 slot_of processes p = cond (ltb p processes) (cond (ltb p 64) p 0) 0
 
--- how a node stands to an address
-unfoldable pub compared_of : List ℕ → Node → Address → Compared
-compared_of addresses n a = record { below = below addresses n a; equal = equal addresses n a }
-
--- a link read whose node or target is not in use
-abbrev pub no_link : LinkRead
-no_link = record { accepted = false; target = no_node; mark = false }
+-- how a node stands to an address: it sorts below, has it, or sorts above
+unfoldable pub compared_of : List ℕ → Node → Address → Ordering
+compared_of addresses n a = cond (below addresses n a) Less (cond (equal addresses n a) Equal Greater)
 
 -- target and mark of a node's link, if the target is in use: "the target of a link read by the row"
-unfoldable pub link_met : Memory → Node → LinkRead
+unfoldable pub link_met : Memory → Node → Option LinkRead
 link_met m n =
     let word = link_at m n in
-    cond (in_use m (target_of word)) (record { accepted = true; target = target_of word; mark = is_marked word }) no_link
+    cond (in_use m (target_of word)) (Some (record { target = target_of word; mark = is_marked word })) None
 
 -- the table after a swap, and its answer: whether it wrote, and the word found
 pub record SwapLeft : Type 0 where

@@ -9,7 +9,16 @@ ghost use Rattle.table.specs.Events.{sizes_fit, tables_fit};
 ghost use Rattle.words.specs.LentMemory.{lent_memory, sized};
 ghost use Rattle.words.specs.LentWords.{slot_of, compared_of, link_met, swap_left, swap_of};
 
-use record::{Address, FAIL, FINDS, HEAD, NO_ANSWER, NO_NODE, Node, Process, Record, TAIL};
+use record::{Address, FAIL, FINDS, HEAD, NO_ANSWER, Node, Process, Record, TAIL};
+use std::cmp::Ordering;
+
+// The lent tables: a word for each node in each.
+#[derive(Drop)]
+pub struct Tables<'a> {
+    pub addresses: &'a mut [u32],
+    pub links: &'a mut [u32],
+    pub deleters: &'a mut [u32],
+}
 
 // The stated sizes, and the count of nodes given out.
 #[derive(Clone, Copy)]
@@ -19,17 +28,9 @@ pub struct Sizes {
     pub count: u32,
 }
 
-// How a node stands to an address.
-#[derive(Clone, Copy)]
-pub struct Compared {
-    pub below: bool,
-    pub equal: bool,
-}
-
-// What reading a link meets: whether its target is in use, and then target and mark.
+// What reading a link meets.
 #[derive(Clone, Copy)]
 pub struct LinkRead {
-    pub accepted: bool,
     pub target: Node,
     pub mark: bool,
 }
@@ -46,7 +47,7 @@ pub struct Swapped {
 pub fn sizes_fit(nodes: u32, processes: u32) -> bool
     ensures { result ≡ sizes_fit nodes processes }
 {
-    (2 <= nodes) & (nodes <= 4096) & (1 <= processes) & (processes <= 64)
+    (2..=4096).contains(&nodes) && (1..=64).contains(&processes)
 }
 
 // Whether they are, and the lent tables long enough for them, and the count within the nodes.
@@ -54,11 +55,10 @@ pub fn sizes_fit(nodes: u32, processes: u32) -> bool
 pub fn tables_fit(addresses: &[u32], links: &[u32], deleters: &[u32], sizes: Sizes) -> bool
     ensures { result ≡ tables_fit (lent_memory addresses.now links.now deleters.now sizes) }
 {
-    let nodes = sizes.nodes as usize;
+    let shortest = addresses.len().min(links.len()).min(deleters.len());
     sizes_fit(sizes.nodes, sizes.processes)
-        & ((nodes <= addresses.len()) & (nodes <= links.len()) & (nodes <= deleters.len()))
-        & (2 <= sizes.count)
-        & (sizes.count <= sizes.nodes)
+        && sizes.nodes as usize <= shortest
+        && (2..=sizes.nodes).contains(&sizes.count)
 }
 
 // The place of a process's record in a row of 64, by the stated number of processes. A process that is not there has the first: it is refused, and
@@ -68,10 +68,8 @@ pub fn slot(process: Process, processes: u32) -> usize
     ensures value { result ≡ slot_of processes process.0 }
     ensures upper_bound { result < 64 }
 {
-    if process.0 < processes {
-        if process.0 < 64 {
-            return process.0 as usize;
-        }
+    if process.0 < processes.min(64) {
+        return process.0 as usize;
     }
     0
 }
@@ -88,11 +86,7 @@ pub fn in_use(links: &[u32], sizes: Sizes, n: Node) -> bool
 pub fn link_word(target: Node, mark: bool) -> u32
     ensures { result ≡ link_word target mark % 4294967296 }
 {
-    let double = 2 * target.0 as u64;
-    if mark {
-        return ((double + 1) % 4294967296) as u32;
-    }
-    (double % 4294967296) as u32
+    ((2 * u64::from(target.0) + u64::from(mark)) % 4294967296) as u32
 }
 
 // The target of a link word.
@@ -113,11 +107,7 @@ pub fn is_marked(word: u32) -> bool
 pub fn word_at(words: &[u32], n: Node) -> u32
     ensures { result ≡ get_or words.now n.0 0 }
 {
-    let at = n.0 as usize;
-    if at < words.len() {
-        return words[at];
-    }
-    0
+    words.get(n.0 as usize).copied().unwrap_or(0)
 }
 
 // Where tail sorts: past the largest address.
@@ -127,7 +117,7 @@ const ABOVE_ALL: u64 = 4294967297;
 fn address_rank(address: Address) -> u64
     ensures { result ≡ rank_of address }
 {
-    address.0 as u64 + 1
+    u64::from(address.0) + 1
 }
 
 // Where a node sorts: head below and tail above every address.
@@ -135,10 +125,10 @@ fn address_rank(address: Address) -> u64
 pub fn rank_of(addresses: &[u32], n: Node) -> u64
     ensures { result ≡ rank addresses.now n }
 {
-    if n.0 == HEAD.0 {
+    if n == HEAD {
         return 0;
     }
-    if n.0 == TAIL.0 {
+    if n == TAIL {
         return ABOVE_ALL;
     }
     address_rank(Address(word_at(addresses, n)))
@@ -146,15 +136,10 @@ pub fn rank_of(addresses: &[u32], n: Node) -> u64
 
 // How a node stands to an address.
 #[tactic(auto, unfolding(crate::specs::LentWords::compared_of))]
-pub fn compare(addresses: &[u32], n: Node, address: Address) -> Compared
+pub fn compare(addresses: &[u32], n: Node, address: Address) -> Ordering
     ensures { result ≡ compared_of addresses.now n address }
 {
-    let node_rank = rank_of(addresses, n);
-    let rank = address_rank(address);
-    Compared {
-        below: node_rank < rank,
-        equal: node_rank == rank,
-    }
+    rank_of(addresses, n).cmp(&address_rank(address))
 }
 
 // Writes a node's word of a lent table.
@@ -183,25 +168,20 @@ pub fn swap(words: &mut [u32], n: Node, expected: u32, new: u32) -> Swapped
     }
 }
 
-// The link word of a node, read: accepted if its target is in use.
+// The link word of a node, read: its target and mark, if the target is in use.
 #[tactic(auto, unfolding(crate::specs::LentWords::link_met, table::specs::Words::link_at))]
-pub fn link_met(links: &[u32], sizes: Sizes, n: Node) -> LinkRead
+pub fn link_met(links: &[u32], sizes: Sizes, n: Node) -> Option<LinkRead>
     ensures { (m : Memory) → result ≡ link_met (sized sizes (links≔ links.now m)) n }
 {
     let word = word_at(links, n);
     let target = target_of(word);
     if in_use(links, sizes, target) {
-        return LinkRead {
-            accepted: true,
+        return Some(LinkRead {
             target,
             mark: is_marked(word),
-        };
+        });
     }
-    LinkRead {
-        accepted: false,
-        target: NO_NODE,
-        mark: false,
-    }
+    None
 }
 
 // Whether the fields of a record are in their ranges: those of any place, then the kind at the places of a search, the answer at the last two.
@@ -212,12 +192,11 @@ pub fn in_range(old: Record) -> bool
     let place = old.lost.place;
     let pending = old.lost.pending;
     let kind = old.kept.kind;
-    let ranged = (place <= 19) & (kind <= 2) & (pending <= 3) & (old.kept.result <= 2);
-    if place <= 2 {
-        return ranged & (kind != FINDS);
+    let ranged = (kind <= 2) & (pending <= 3) & (old.kept.result <= 2);
+    match place {
+        0..=2 => ranged & (kind != FINDS),
+        3..=17 => ranged,
+        18..=19 => ranged & (pending != NO_ANSWER) & ((place == 19) | (pending != FAIL)),
+        _ => false,
     }
-    if place < 18 {
-        return ranged;
-    }
-    ranged & (pending != NO_ANSWER) & ((place != 18) | (pending != FAIL))
 }

@@ -2,8 +2,7 @@
 use Rattle.list.proofs.Judged.{able}
 use Rattle.list.proofs.act.Goals as goal
 
-pub does-requires-clause-within : goal.does-requires-clause-within
-does-requires-clause-within c = (able _ _ _ _ _ _ c.tables_fit-fits.ensures (rw c.if-not-fits.false) c.if-sizes-process.false).0
-
-pub does-requires-clause-p_bound : goal.does-requires-clause-p_bound
-does-requires-clause-p_bound c = (able _ _ _ _ _ _ c.tables_fit-fits.ensures (rw c.if-not-fits.false) c.if-sizes-process.false).1
+pub invariant_of-actor : goal.invariant_of-actor
+invariant_of-actor c =
+    let x = able _ _ _ _ _ _ c.tables_fit.ensures (rw c.if-not-tables_fit.false) c.if-sizes-process.false in
+    record { within = x.0; process_bound = x.1 }

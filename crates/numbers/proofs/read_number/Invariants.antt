@@ -6,4 +6,4 @@ use Rattle.numbers.proofs.read_number.Given as goal
 
 abbrev pub invariant-loop-count : goal.invariant-loop-count
 invariant-loop-count l =
-    GatheredSoFar l.count l.groups (behind (take l.count l.groups) (after_groups l.count (drop l.next l.bytes)) ≡ read_number (drop l.at l.bytes))
+    GatheredSoFar l.count l.group-items (behind (take l.count l.group-items) (after_groups l.count (drop l.next l.bytes)) ≡ read_number (drop l.at l.bytes))

@@ -1,17 +1,15 @@
 -- The numbers that the writer makes of a header or an event, and their bytes laid in a part that it was lent. Rests on Numbers and Writing.
-use Rattle.std.specs.Prelude.{true, false, cond, List, [], ◌∷◌, ◌++◌, ℕ, ◌+◌, ◌-◌, min, leb, length}
+use Rattle.std.specs.Prelude.{cond, List, [], ◌∷◌, ◌++◌, ℕ, ◌+◌, ◌-◌, min, leb, length, Option, Some, None}
 use Rattle.numbers.specs.Numbers.{number_bytes}
 use Rattle.schedule.specs.declared.writing.Numbers.{Numbers}
 use Rattle.schedule.specs.Writing.{Wrote, wrote, laid}
 
-abbrev pub two : (first second : ℕ) → Numbers
-two first second = record { first = first; second = second; third = 0; three = false }
-
-abbrev pub three : (first second third : ℕ) → Numbers
-three first second third = record { first = first; second = second; third = third; three = true }
+abbrev pub third_bytes : Option ℕ → List ℕ
+third_bytes None = []
+third_bytes (Some third) = number_bytes third
 
 abbrev pub tail_bytes : Numbers → List ℕ
-tail_bytes x = number_bytes x.second ++ cond x.three (number_bytes x.third) []
+tail_bytes x = number_bytes x.second ++ third_bytes x.third
 
 abbrev pub bytes_of : Numbers → List ℕ
 bytes_of x = number_bytes x.first ++ tail_bytes x

@@ -3,8 +3,5 @@ use Rattle.std.proofs.Common.{◌≡◌, ◌+◌, ◌≤◌, length}
 use Rattle.numbers.specs.Numbers.{number_bytes}
 use Rattle.schedule.proofs.writing.number_size.Given as goal
 
-abbrev pub invariant-loop-rest : goal.invariant-loop-rest
-invariant-loop-rest l = (l.rest ≤ l.number) × (l.size + length (number_bytes l.rest) ≡ 1 + length (number_bytes l.number))
-
-abbrev pub decreases-loop-rest : goal.decreases-loop-rest
-decreases-loop-rest l = l.rest
+abbrev pub invariant-loop-size : goal.invariant-loop-size
+invariant-loop-size l = (l.rest ≤ l.number) × (l.size + length (number_bytes l.rest) ≡ 1 + length (number_bytes l.number))

@@ -1,11 +1,7 @@
 -- The loop keeps the bytes so far with those to come; its laws are in PutNumber.
-use Rattle.std.proofs.Common.{◌-◌, ◌≤◌, length}
 use Rattle.numbers.specs.Numbers.{number_bytes}
 use Rattle.schedule.proofs.PutNumber.{Putting}
 use Rattle.schedule.proofs.writing.put_number.Given as goal
 
 abbrev pub invariant-loop-at : goal.invariant-loop-at
-invariant-loop-at l = (l.rest ≤ l.number) × Putting (number_bytes l.number) l.fn.out l.out l.rest l.at
-
-abbrev pub decreases-loop-at : goal.decreases-loop-at
-decreases-loop-at l = length l.out - l.at
+invariant-loop-at l = Putting (number_bytes l.number) l.fn.out l.out l.rest l.at

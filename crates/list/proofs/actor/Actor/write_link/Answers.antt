@@ -1,0 +1,7 @@
+-- What is written is the link to a usable node. Rests on Accessed.
+use Rattle.std.proofs.Common.{rules}
+use Rattle.list.proofs.Accessed.{link_made}
+use Rattle.list.proofs.actor.Actor.write_link.Goals as goal
+
+pub returns : goal.returns
+returns c a d = search (rules, link_made, c.in_ok-n.ensures a d, c.in_ok-target.ensures a d)
