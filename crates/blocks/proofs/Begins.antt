@@ -5,6 +5,7 @@ use mathlib.Core.Path.{◌≡◌, refl, ap, sym, ◌∙◌, subst}
 use mathlib.Core.Bool.{true}
 use native.Mathlib.Omega.{arith}
 use lib.ListN.{length, drop, replicate, length-replicate, replicate-append-replicate}
+use Rattle.std.specs.Prelude.{Ok, Err}
 use Rattle.record.specs.Record.{fresh_record}
 use Rattle.record.specs.declared.Record.{Record}
 use Rattle.record.specs.declared.Outcome.TheVariants as outcome
@@ -14,16 +15,14 @@ use Rattle.basics.proofs.Tests.{if, if_lt}
 use Rattle.table.proofs.Laws.Fitting.{limits_of, LongEnough, long_for_fewer, Beyond, room_fresh, fit_of}
 use Rattle.table.proofs.Laws.Sizes.{longer_state}
 use Rattle.words.specs.LentMemory.{sized, sizes_of}
-use Rattle.fresh.specs.Fresh.{TablesLeft, fresh_sizes, laid_over, fresh_fits, tables_left, fresh_tables}
-use Rattle.fresh.specs.declared.Made.{Made}
-use Rattle.fresh.specs.declared.Made.TheVariants.{Fresh, Refused}
+use Rattle.fresh.specs.Fresh.{Made, TablesLeft, fresh_sizes, laid_over, fresh_fits, tables_left, fresh_tables}
 use Rattle.numbers.specs.Numbers.{Read, got, stops, read_number}
 use Rattle.numbers.specs.ReadAt.{place_in}
 use Rattle.numbers.proofs.Follows.{Tells, after, number_takes}
 use Rattle.schedule.specs.declared.Header.{Header}
 use Rattle.schedule.specs.declared.Cursor.{Cursor}
-use Rattle.schedule.specs.declared.HeaderRead.{HeaderRead}
-use Rattle.schedule.specs.declared.HeaderRead.TheVariants as header
+use Rattle.schedule.specs.HeaderRead.{HeaderRead}
+use Rattle.schedule.specs.HeaderRead as header
 use Rattle.schedule.specs.Encoding.{events_of}
 use Rattle.schedule.specs.Reading.{Reading, file, bad_header, read_header, read_file}
 use Rattle.schedule.specs.Cursors.{start, header_read, header_at}
@@ -94,8 +93,8 @@ module _ (nodes processes : ℕ) (fit : sizes_fit nodes processes ≡ true) wher
 start_numbered : (s : List ℕ) (m : Memory) (next : Cursor) (made : Made) → length s ≤ 65536 → next.left ≡ 0
     → Numbered s (world m (start_of next made))
 unfolding start_of
-start_numbered s m next (Fresh sizes) short none z = omega (arith, comes_few s next)
-start_numbered s m next (Refused n) short none z = omega (arith, acts _ z)
+start_numbered s m next (Ok sizes) short none z = omega (arith, comes_few s next)
+start_numbered s m next (Err refusal) short none z = omega (arith, acts _ z)
 
 -- a run begun, by the header read
 module _ (s : List ℕ) (m : Memory) where
@@ -104,10 +103,7 @@ module _ (s : List ℕ) (m : Memory) where
 
   begun_got : (h : Header) (next : Cursor) → header_at s start ≡ header.Got h next
       → world (made_for h).memory (start_of next (made_for h).answer) ≡ begins s m
-  begun_got h next e = begin_got s m (header_at s start) _ refl (made_for h).memory h next (made_for h).answer e refl refl
-
-  begun_refused : (n : ℕ) → header_at s start ≡ header.Refused n → world m (refusing n) ≡ begins s m
-  begun_refused n e = begin_refused s m (header_at s start) (refusing n) refl n e refl
+  begun_got h next e = begin_got s m (made_for h).memory h next (made_for h).answer e refl
 
   pub begin_numbered : Numbered s (begins s m)
   begin_numbered = by (header_at s start) refl (header_has s start)
@@ -115,7 +111,7 @@ module _ (s : List ℕ) (m : Memory) where
       by : (r : HeaderRead) → header_at s start ≡ r → HeaderHas s r → Numbered s (begins s m)
       by (header.Got h next) e has =
           subst (Numbered s) (begun_got h next e) (start_numbered s (made_for h).memory next (made_for h).answer has.0 has.1)
-      by (header.Refused n) e has = subst (Numbered s) (begun_refused n e) (λ z. omega (arith, acts _ z))
+      by (header.Refused n) e has = subst (Numbered s) (begin_refused s m n e) (λ z. omega (arith, acts _ z))
 
 -- ---- the whole output is to come
 
@@ -147,7 +143,7 @@ module _ (s : List ℕ) (m : Memory) (long : LongEnough 4096 (lengths m)) (h : H
   abbrev begun : World
   begun = world (laid_over new m) (run_of Acting next (sizes_of new) 0 fresh_row)
 
-  made_fresh : made_for s m h ≡ tables_left begun.memory (Fresh (sizes_of new))
+  made_fresh : made_for s m h ≡ tables_left begun.memory (Ok (sizes_of new))
   unfolding fresh_tables
   made_fresh = rw (fits_long h.nodes h.processes fit m long)
 
@@ -184,6 +180,6 @@ begin_comes s m long = by (header_at s start) refl (header_has s start) (header_
         ∙ (λ i. played 0 (fresh h.nodes h.processes) (t.2 i) (t.3 i))
         ∙ sym (output_file s h t.0 t.1)
     by (header.Refused n) e has t =
-        ap (to_come s) (sym (begun_refused s m n e))
+        ap (to_come s) (sym (begin_refused s m n e))
         ∙ come_refusing s (world m (refusing n)) n refl
         ∙ sym (output_bad s n t.0)

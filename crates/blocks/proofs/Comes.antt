@@ -16,8 +16,8 @@ use Rattle.table.specs.Words.{address_at}
 use Rattle.table.specs.Chain.{Ahead, onto, tail_ahead, not_in_use, not_above, ahead, nodes_after, chain, chain_addresses}
 use Rattle.table.specs.Events.{State, event, runs, outcomes}
 use Rattle.table.proofs.Laws.Ahead.{walk_on, nodes_after_lem}
-use Rattle.schedule.specs.declared.EventRead.{EventRead}
-use Rattle.schedule.specs.declared.EventRead.TheVariants as read
+use Rattle.schedule.specs.EventRead.{EventRead}
+use Rattle.schedule.specs.EventRead as read
 use Rattle.schedule.specs.Cursors.{event_at}
 use Rattle.files.specs.Comes.{comes, ends}
 use Rattle.files.proofs.Comes.{got_tells, end_tells, refused_tells}
@@ -30,7 +30,7 @@ use Rattle.run.specs.Filling.{NextPiece, piece, nothing}
 use Rattle.run.specs.Pieces.{World, memory_of, table_of, in_phase, next_number, went_on, to_walk, event_next, put_ahead, address_next, next_piece}
 use Rattle.run.specs.PrivatePromises.{stopped_text, last_text}
 use Rattle.run.specs.contracts.Phase as phase-type
-use Rattle.run.proofs.Steps.{acting_piece, got_piece, last_next, refusal_piece, over_nothing, walking_piece}
+use Rattle.run.proofs.Steps.{acting_piece, got_piece, end_next, refused_next, refusal_piece, over_nothing, walking_piece}
 use Rattle.blocks.specs.ToCome.{to_come}
 use Rattle.blocks.proofs.Pieces.{Gives}
 
@@ -110,14 +110,14 @@ module _ (file : List ℕ) (w : World) (acting : w.run.phase ≡ Acting) (number
       )
   by_read read.End h =
       let t = end_tells file w.run.cursor h in
-      subst (Told file _) (sym (last_next file w read.End h (λ e next q. cc))) (
+      subst (Told file _) (sym (end_next file w h)) (
         (λ z. omega (arith, acts _ z)),
         rw (come_acting file w acting, t.0, t.1) (played_end w.run.number (table_of w) ∙ keys_walk file w),
         omega arith,
       )
   by_read (read.Refused n) h =
       let t = refused_tells file w.run.cursor n h in
-      subst (Told file _) (sym (last_next file w (read.Refused n) h (λ e next q. cc))) (
+      subst (Told file _) (sym (refused_next file w n h)) (
         (λ z. omega (arith, acts _ z)),
         rw (come_acting file w acting, t.0, t.1, append_assoc, ← keys_walk file w) (played_stop w.run.number (table_of w) n t.2.0),
         simp length-append (omega (arith, line_some w.run.number (outcome.Refused n))),

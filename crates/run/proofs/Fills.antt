@@ -54,10 +54,6 @@ module _ (bytes block part : List ℕ) (at count : ℕ) (inside : at ≤ length 
 abbrev pub FillsTo : {S : Type 0} → (S → NextPiece S) → S → (block : List ℕ) → (at : ℕ) → (whole : Stop S) → Type 0
 FillsTo {S} next s block at whole = Reaches (Stop S) (λ turns. fill_from next turns s block at) whole (length block - at)
 
--- which may be known by another name
-pub to_same : {T : Type 0} {from : ℕ → T} {whole whole' : T} {room : ℕ} → Reaches T from whole room → whole ≡ whole' → Reaches T from whole' room
-to_same r e = record { turns = r.turns; enough = r.enough; same = r.same ∙ e }
-
 -- two stops by a test that stops either way
 same_either : {A : Type 0} (b : Bool) (x : A) → x ≡ cond b x x
 same_either true x = refl

@@ -6,11 +6,13 @@ use native.Mathlib.Omega.{arith}
 use lib.ListN.{length, take, drop}
 use borrow.Rule.Slice.PartMut.{put_mid}
 use Rattle.basics.proofs.Rest.{length_rest}
+use Rattle.std.specs.Prelude.{Option, Some, None, Result, Ok, Err}
 use Rattle.record.specs.declared.Event.{Event}
+use Rattle.record.specs.declared.Refusal.{Refusal}
+use Rattle.record.specs.Refusal.{number_of}
 use Rattle.record.specs.declared.Outcome.TheVariants as outcome
 use Rattle.schedule.specs.declared.Cursor.{Cursor}
-use Rattle.schedule.specs.declared.EventRead.{EventRead}
-use Rattle.schedule.specs.declared.EventRead.TheVariants as read
+use Rattle.schedule.specs.EventRead.{event_told}
 use Rattle.text.specs.Text.{line, keys_word}
 use Rattle.text.specs.Put.{Put, put, puts, put_into}
 use Rattle.text.proofs.Puts.{put_then, puts_same, roomy}
@@ -26,15 +28,19 @@ stopped_put number refusal part mid last k m first second room same few =
     (second ∙ roomy keys_word _ (omega (arith, length_rest mid k)))
 
 -- by what was read
-module _ (number : ℕ) (r : EventRead) (part : List ℕ) where
-  pub last_got : (e : Event) (next : Cursor) → r ≡ read.Got e next → put part 0 ≡ puts (last_text number r) part
-  unfolding last_text
-  last_got e next is = puts_same (last_text number) _ _ part _ is refl
+module _ (number : ℕ) (r : Result (Option (Event × Cursor)) Refusal) (part : List ℕ) where
+  abbrev told : Result (Option (Event × Cursor)) Refusal → List ℕ
+  told x = last_text number (event_told x)
 
-  pub last_end : (x : Put) → r ≡ read.End → x ≡ put_into keys_word part → 64 ≤ length part → x ≡ puts (last_text number r) part
+  pub last_got : (e : Event × Cursor) → r ≡ Ok (Some e) → put part 0 ≡ puts (last_text number (event_told r)) part
   unfolding last_text
-  last_end x is e room = puts_same (last_text number) _ _ part x is (e ∙ roomy keys_word part (omega arith))
+  last_got e is = puts_same told _ _ part _ is refl
 
-  pub last_refused : (n : ℕ) (x : Put) → r ≡ read.Refused n → x ≡ puts (stopped_text number n) part → x ≡ puts (last_text number r) part
+  pub last_end : (x : Put) → r ≡ Ok None → x ≡ put_into keys_word part → 64 ≤ length part → x ≡ puts (last_text number (event_told r)) part
   unfolding last_text
-  last_refused n x is e = puts_same (last_text number) _ _ part x is e
+  last_end x is e room = puts_same told _ _ part x is (e ∙ roomy keys_word part (omega arith))
+
+  pub last_refused : (refusal : Refusal) (x : Put) → r ≡ Err refusal → x ≡ puts (stopped_text number (number_of refusal)) part
+      → x ≡ puts (last_text number (event_told r)) part
+  unfolding last_text
+  last_refused refusal x is e = puts_same told _ _ part x is e

@@ -1,5 +1,4 @@
 pub mod Fills
 pub mod LastTexts
 pub mod Steps
-pub mod TablesKept
 pub mod Unique

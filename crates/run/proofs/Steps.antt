@@ -3,12 +3,15 @@
 use Prim.Native.Nat.{ℕ, suc, ◌-◌, ◌<◌, ◌≤◌}
 use mathlib.Core.List.{List, [], ◌∷◌}
 use mathlib.Core.Bool.{Bool, true, false, false≢true}
-use mathlib.Core.Path.{◌≡◌, refl, ap, sym, ◌∙◌, subst}
+use mathlib.Core.Path.{◌≡◌, refl, ap, sym, ◌∙◌}
 use native.Mathlib.Omega.{arith}
 use borrow.Author.Tests.{lt-ltb, ltb-true, ltb-false}
 use lib.ListN.{length, length-append, get_or, set}
 use lib.Seq.{set-get_or}
+use Rattle.std.specs.Prelude.{Option, Some, None, Result, Ok, Err}
 use Rattle.record.specs.Record.{fresh_record, process}
+use Rattle.record.specs.declared.Refusal.{Refusal}
+use Rattle.record.specs.Refusal.{number_of}
 use Rattle.record.specs.Event.{is_accepted}
 use Rattle.record.specs.declared.Node.{Node}
 use Rattle.record.specs.declared.Address.{Address}
@@ -29,19 +32,18 @@ use Rattle.words.specs.LentWords.{slot_of}
 use Rattle.list.specs.Acting.{left}
 use Rattle.list.specs.declared.Acted.{Acted}
 use Rattle.schedule.specs.declared.Cursor.{Cursor}
-use Rattle.schedule.specs.declared.EventRead.{EventRead}
-use Rattle.schedule.specs.declared.EventRead.TheVariants as read
+use Rattle.schedule.specs.EventRead.{EventRead, event_told}
+use Rattle.schedule.specs.EventRead as read
 use Rattle.schedule.specs.declared.Header.{Header}
-use Rattle.schedule.specs.declared.HeaderRead.{HeaderRead}
-use Rattle.schedule.specs.declared.HeaderRead.TheVariants as header
+use Rattle.schedule.specs.HeaderRead.{header_told}
+use Rattle.schedule.specs.HeaderRead as header
 use Rattle.schedule.specs.Cursors.{start, header_at, event_at}
-use Rattle.fresh.specs.Fresh.{tables_left, fresh_sizes, fresh_tables}
-use Rattle.fresh.specs.declared.Made.{Made}
+use Rattle.fresh.specs.Fresh.{Made, tables_left, fresh_sizes, fresh_tables}
 use Rattle.chain.specs.Walking.{ahead_from}
 use Rattle.chain.specs.declared.Ahead.{Ahead}
 use Rattle.chain.specs.declared.Ahead.TheVariants as ahead
 use Rattle.chain.proofs.Walks.{Stops, told_next, told_stops}
-use Rattle.text.specs.Text.{line, decimal, space, newline}
+use Rattle.text.specs.Text.{line, keys_word, decimal, space, newline}
 use Rattle.text.specs.Put.{put, put_into}
 use Rattle.text.proofs.Lengths.{line_some}
 use Rattle.run.specs.declared.Phase.{Phase}
@@ -75,10 +77,6 @@ module _ (σ : State) (row : length σ.row ≡ 64) (e : Event) where
 pub acting_piece : (file : List ℕ) (w : World) → w.run.phase ≡ Acting → next_piece file w ≡ event_next file w
 unfolding next_piece
 acting_piece file w e = rw e
-
--- a run that acts is the run of its parts
-pub acting_run : (run : Run) → run.phase ≡ Acting → run_of Acting run.cursor run.sizes run.number run.row ≡ run
-acting_run run h = ap (λ (phase : Phase). run_of phase run.cursor run.sizes run.number run.row) (sym h)
 
 pub got_piece : (file : List ℕ) (w : World) (e : Event) (next : Cursor) → event_at file w.run.cursor ≡ read.Got e next
     → event_next file w ≡ piece (line w.run.number (event (table_of w) e).outcome) (went_on w next (event (table_of w) e).after)
@@ -123,26 +121,38 @@ module _ (m : Memory) (run : Run) (acting : run.phase ≡ Acting) (row : length 
       ∙ ap (λ (y : Leaves). piece (line run.number y.outcome) (went_on w next y.after)) (event_at_lem (table_of w) row e at slot)
       ∙ goes_on
 
+pub end_next : (file : List ℕ) (w : World) → event_at file w.run.cursor ≡ read.End → event_next file w ≡ piece keys_word (to_walk w)
+unfolding event_next
+end_next file w h = rw (h, event_next)
+
+pub refused_next : (file : List ℕ) (w : World) (n : ℕ) → event_at file w.run.cursor ≡ read.Refused n
+    → event_next file w ≡ piece (stopped_text w.run.number n) (to_walk w)
+unfolding event_next stopped_text
+refused_next file w n h = rw (h, event_next)
+
 -- what follows the last event
-abbrev NotGot : EventRead → Type 0
-NotGot r = (e : Event) (next : Cursor) → r ≡ read.Got e next → ⊥
+abbrev pub Answer : Type 0
+Answer = Result (Option (Event × Cursor)) Refusal
 
-pub last_next : (file : List ℕ) (w : World) (r : EventRead) → event_at file w.run.cursor ≡ r → NotGot r
-    → event_next file w ≡ piece (last_text w.run.number r) (to_walk w)
-unfolding event_next last_text stopped_text
-last_next file w (read.Got e next) is h = absurd (h e next refl)
-last_next file w read.End is h = rw (is, event_next)
-last_next file w (read.Refused n) is h = rw (is, event_next)
+abbrev pub NotGot : Answer → Type 0
+NotGot r = (x : Event × Cursor) → r ≡ Ok (Some x) → ⊥
 
-pub last_piece : (file : List ℕ) (w : World) (r : EventRead) → w.run.phase ≡ Acting → r ≡ event_at file w.run.cursor → NotGot r
-    → next_piece file w ≡ piece (last_text w.run.number r) (to_walk w)
+last_next : (file : List ℕ) (w : World) (r : Answer) → event_at file w.run.cursor ≡ event_told r → NotGot r
+    → event_next file w ≡ piece (last_text w.run.number (event_told r)) (to_walk w)
+unfolding last_text
+last_next file w (Ok (Some x)) is h = absurd (h x refl)
+last_next file w (Ok None) is h = end_next file w is
+last_next file w (Err refusal) is h = refused_next file w (number_of refusal) is
+
+pub last_piece : (file : List ℕ) (w : World) (r : Answer) → w.run.phase ≡ Acting → event_told r ≡ event_at file w.run.cursor → NotGot r
+    → next_piece file w ≡ piece (last_text w.run.number (event_told r)) (to_walk w)
 last_piece file w r acting is h = acting_piece file w acting ∙ last_next file w r (sym is) h
 
-pub last_some : (number : ℕ) (r : EventRead) → NotGot r → 1 ≤ length (last_text number r)
+pub last_some : (number : ℕ) (r : Answer) → NotGot r → 1 ≤ length (last_text number (event_told r))
 unfolding last_text stopped_text
-last_some number (read.Got e next) h = absurd (h e next refl)
-last_some number read.End h = omega arith
-last_some number (read.Refused n) h = simp length-append (omega arith)
+last_some number (Ok (Some x)) h = absurd (h x refl)
+last_some number (Ok None) h = omega arith
+last_some number (Err refusal) h = simp length-append (omega arith)
 
 -- the refusal of a header
 pub refusal_piece : (file : List ℕ) (w : World) (n : ℕ) → w.run.phase ≡ Refusing n
@@ -177,16 +187,21 @@ module _ (w : World) (file : List ℕ) (n : Node) (walking : w.run.phase ≡ Wal
 
 -- ---- how a run begins
 
--- by what the reader gave, and the tables made fresh
-module _ (file : List ℕ) (m : Memory) (read : HeaderRead) (r : Run) (is : read ≡ header_at file start) where
-  pub begin_got : (m' : Memory) (h : Header) (next : Cursor) (made : Made) → read ≡ header.Got h next
-      → tables_left m' made ≡ fresh_tables (sized (fresh_sizes h.nodes h.processes) m) → r ≡ start_of next made → world m' r ≡ begins file m
-  unfolding begins
-  begin_got m' h next made got fresh starts = rw (sym is ∙ got, begins, ← fresh, starts)
+-- what the reader answers at the start
+pub header_is : (file : List ℕ) (at : Cursor) (read known : Result (Header × Cursor) Refusal) → at ≡ start → header_told read ≡ header_at file at
+    → read ≡ known → header_at file start ≡ header_told known
+header_is file at read known from told is = rw (← from, ← told, is)
 
-  pub begin_refused : (number : ℕ) → read ≡ header.Refused number → r ≡ refusing number → world m r ≡ begins file m
+-- by the header, and the tables made fresh
+module _ (file : List ℕ) (m : Memory) where
+  pub begin_got : (m' : Memory) (h : Header) (next : Cursor) (made : Made) → header_at file start ≡ header.Got h next
+      → tables_left m' made ≡ fresh_tables (sized (fresh_sizes h.nodes h.processes) m) → world m' (start_of next made) ≡ begins file m
   unfolding begins
-  begin_refused number refused starts = rw (sym is ∙ refused, begins, starts)
+  begin_got m' h next made got fresh = rw (got, begins, ← fresh)
+
+  pub begin_refused : (number : ℕ) → header_at file start ≡ header.Refused number → world m (refusing number) ≡ begins file m
+  unfolding begins
+  begin_refused number refused = rw (refused, begins)
 
 -- ---- where filling stands
 
@@ -215,15 +230,6 @@ still_comes room (Walking n) told ready = (ltb-false _ _ told, tt)
 still_comes room Over told ready = absurd (false≢true (sym told))
 
 -- ---- the pieces that no event puts
-
--- a phase may be known by another name
-pub piece_known : (phase known : Phase) → phase ≡ known → HasPiece phase → HasPiece known
-piece_known phase known is has = subst HasPiece is has
-
-pub next_known : (addresses links : List ℕ) (sizes : Sizes) (phase known : Phase) (part left : List ℕ) (count : ℕ) (after : Phase) → phase ≡ known
-    → PutsNext addresses links sizes known part left count after → PutsNext addresses links sizes phase part left count after
-next_known addresses links sizes phase known part left count after is so =
-    subst (λ x. PutsNext addresses links sizes x part left count after) (sym is) so
 
 module _ (part left : List ℕ) (count : ℕ) where
   pub refusal_put : (addresses links : List ℕ) (sizes : Sizes) (phase : Phase) (number : ℕ) → phase ≡ Refusing number

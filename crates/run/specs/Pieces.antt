@@ -1,21 +1,20 @@
 -- The pieces of a run's output: what comes next, wherever the run stands, and how a run begins. Rests on the schedule's cursors, the place
 -- table's events, the walk along the chain and the text.
-use Rattle.std.specs.Prelude.{cond, List, [], ◌∷◌, ◌++◌, ℕ, suc, ◌+◌, ltb, length, replicate}
+use Rattle.std.specs.Prelude.{cond, Ok, Err, List, [], ◌∷◌, ◌++◌, ℕ, suc, ◌+◌, ltb, length, replicate}
 use Rattle.record.specs.Record.{fresh_record, head_node}
 use Rattle.record.specs.declared.Node.{Node}
 use Rattle.record.specs.declared.Record.{Record}
 use Rattle.record.specs.declared.Outcome.TheVariants as outcome
+use Rattle.record.specs.Refusal.{number_of}
 use Rattle.table.specs.Words.{Memory, address_at}
 use Rattle.table.specs.Chain.{Ahead, onto, tail_ahead, not_in_use, not_above, ahead}
 use Rattle.table.specs.Events.{State, state_of, event}
 use Rattle.words.specs.LentMemory.{sized, sizes_of}
 use Rattle.words.specs.declared.Sizes.{Sizes}
-use Rattle.fresh.specs.Fresh.{fresh_sizes, fresh_tables}
-use Rattle.fresh.specs.declared.Made.{Made}
-use Rattle.fresh.specs.declared.Made.TheVariants.{Fresh, Refused}
+use Rattle.fresh.specs.Fresh.{Made, fresh_sizes, fresh_tables}
 use Rattle.schedule.specs.declared.Cursor.{Cursor}
-use Rattle.schedule.specs.declared.EventRead.TheVariants as read
-use Rattle.schedule.specs.declared.HeaderRead.TheVariants as header
+use Rattle.schedule.specs.EventRead as read
+use Rattle.schedule.specs.HeaderRead as header
 use Rattle.schedule.specs.Cursors.{start, header_at, event_at}
 use Rattle.text.specs.Text.{line, decimal, keys_word, space, newline}
 use Rattle.run.specs.declared.Phase.{Phase}
@@ -113,8 +112,8 @@ refusing number = run_of (Refusing number) start unstated 0 fresh_row
 
 -- "a lent table too short" is refused as a header is
 unfoldable pub start_of : Cursor → Made → Run
-start_of next (Fresh sizes) = run_of Acting next sizes 0 fresh_row
-start_of next (Refused number) = refusing number
+start_of next (Ok sizes) = run_of Acting next sizes 0 fresh_row
+start_of next (Err refusal) = refusing (number_of refusal)
 
 -- "An accepted header makes the tables fresh; a refused one changes nothing."
 unfoldable pub begins : (file : List ℕ) → Memory → World

@@ -1,19 +1,26 @@
 -- What the run's private functions promise of a block filled in part and of the texts they put; no public promise rests on it. Rests on Pieces.
-use Rattle.std.specs.Prelude.{Bool, true, List, [], ◌++◌, ◌≡◌, ℕ, ◌-◌, ◌<◌, ◌≤◌, ltb, length}
+use Rattle.std.specs.Prelude.{Bool, true, Result, Ok, Err, List, [], ◌++◌, ◌≡◌, ℕ, ◌-◌, ◌<◌, ◌≤◌, ltb, length}
 use Rattle.record.specs.declared.Record.{Record}
 use Rattle.record.specs.declared.Outcome.TheVariants as outcome
+use Rattle.record.specs.declared.Refusal.{Refusal}
+use Rattle.record.specs.Refusal.{number_of}
 use Rattle.table.specs.Words.{Memory, addresses≔, links≔}
 use Rattle.words.specs.declared.Sizes.{Sizes}
 use Rattle.schedule.specs.declared.Cursor.{Cursor}
-use Rattle.schedule.specs.declared.EventRead.{EventRead}
-use Rattle.schedule.specs.declared.EventRead.TheVariants as read
+use Rattle.schedule.specs.EventRead.{EventRead}
+use Rattle.schedule.specs.EventRead as read
 use Rattle.text.specs.Text.{line, keys_word}
 use Rattle.text.specs.Put.{put, put_into}
 use Rattle.run.specs.declared.Phase.{Phase}
 use Rattle.run.specs.declared.Phase.TheVariants.{Refusing, Acting, Walking, Over}
 use Rattle.run.specs.declared.Run.{Run}
 use Rattle.run.specs.Filling.{piece, Stop, stop, fill_from}
-use Rattle.run.specs.Pieces.{World, world, run_of, in_phase, next_piece, fills}
+use Rattle.run.specs.Pieces.{World, world, run_of, in_phase, next_piece, fills, refusing}
+
+-- the run to begin with: after an accepted header, or to say why it was refused
+abbrev pub begun : Result Run Refusal → Run
+begun (Ok run) = run
+begun (Err refusal) = refusing (number_of refusal)
 
 -- filling from where it stands comes to what filling from the start comes to, in some number of turns that is more than the room
 pub record Reaches (T : Type 0) (from : ℕ → T) (whole : T) (room : ℕ) : Type 0 where

@@ -5,18 +5,17 @@ mod lines;
 mod rest;
 
 ghost use Rattle.std.specs.Prelude.{◌≡◌, ◌≤◌, ◌-◌, length};
-ghost use Rattle.words.specs.LentMemory.{lent_memory};
-ghost use Rattle.schedule.specs.Cursors.{start, header_at};
+ghost use Rattle.words.specs.LentMemory.{memory_of, SameTables};
 ghost use Rattle.run.specs.Filling.{stop};
-ghost use Rattle.run.specs.Pieces.{world, phase≔, fills, unstated, refusing, start_of, begins};
-ghost use Rattle.run.specs.PrivatePromises.{LeftOff, Ready};
+ghost use Rattle.run.specs.Pieces.{world, phase≔, fills, unstated, refusing, begins};
+ghost use Rattle.run.specs.PrivatePromises.{LeftOff, Ready, begun};
 
-use fresh::{Made, fresh_tables};
+use fresh::fresh_tables;
 use lines::fill_lines;
-use record::{Node, Record};
+use record::{Node, Record, Refusal};
 use rest::fill_rest;
-use schedule::{Cursor, HeaderRead, read_header};
-use words::Sizes;
+use schedule::{Cursor, read_header};
+use words::{Sizes, Tables};
 
 // What a run does next: it says why its header was refused, acts on events, walks on along the chain from a node, or is over.
 #[derive(Clone, Copy)]
@@ -49,16 +48,7 @@ impl Run {
     pub fn in_phase(self, phase: Phase) -> Run
         ensures { result ≡ phase≔ phase self }
     {
-        let cursor = self.cursor;
-        let sizes = self.sizes;
-        let row = self.row;
-        Run {
-            phase,
-            cursor,
-            sizes,
-            number: self.number,
-            row,
-        }
+        Run { phase, ..self }
     }
 }
 
@@ -66,108 +56,71 @@ impl Run {
 fn refusing(number: u8) -> Run
     ensures { result ≡ refusing number }
 {
-    let cursor = Cursor::start();
-    let fresh = Record::fresh();
-    let row = [fresh; 64];
     Run {
         phase: Phase::Refusing(number),
-        cursor,
+        cursor: Cursor::start(),
         sizes: Sizes {
             nodes: 0,
             processes: 0,
             count: 0,
         },
         number: 0,
-        row,
+        row: [Record::fresh(); 64],
     }
 }
 
-// A run after its header, with fresh tables or without.
-#[tactic(auto, unfolding(crate::specs::Pieces::start_of))]
-fn start_of(next: Cursor, made: Made) -> Run
-    ensures { result ≡ start_of next made }
+// A run after its header, and the lent tables made fresh, where it is accepted.
+fn begun(file: &[u8], tables: &mut Tables) -> Result<Run, Refusal>
+    ensures same { SameTables tables.old tables.new }
+    ensures left { world (memory_of tables.new (begun result).sizes) (begun result) ≡
+        begins file.now (memory_of tables.old unstated) }
 {
-    match made {
-        Made::Refused(number) => refusing(number),
-        Made::Fresh(sizes) => {
-            let fresh = Record::fresh();
-            let row = [fresh; 64];
-            Run {
-                phase: Phase::Acting,
-                cursor: next,
-                sizes,
-                number: 0,
-                row,
-            }
-        }
-    }
-}
-
-// The header of a file, read from its start.
-fn header_of(file: &[u8]) -> HeaderRead
-    ensures { result ≡ header_at file.now start }
-{
-    read_header(file, Cursor::start())
+    let (header, cursor) = read_header(file, Cursor::start())?;
+    let sizes = fresh_tables(tables, header.nodes, header.processes)?;
+    Ok(Run {
+        phase: Phase::Acting,
+        cursor,
+        sizes,
+        number: 0,
+        row: [Record::fresh(); 64],
+    })
 }
 
 // A run at the start of a file: its header read, and the lent tables made fresh where it is accepted.
-pub fn begin(file: &[u8], addresses: &mut [u32], links: &mut [u32], deleters: &mut [u32]) -> Run
-    ensures { world (lent_memory addresses.new links.new deleters.new result.sizes) result ≡
-        begins file.now (lent_memory addresses.old links.old deleters.old unstated) }
+pub fn begin(file: &[u8], tables: &mut Tables) -> Run
+    ensures same { SameTables tables.old tables.new }
+    ensures left { world (memory_of tables.new result.sizes) result ≡ begins file.now (memory_of tables.old unstated) }
 {
-    let read = header_of(file);
-    match read {
-        HeaderRead::Got(header, next) => {
-            let made = fresh_tables(addresses, links, deleters, header.nodes, header.processes);
-            start_of(next, made)
-        }
-        HeaderRead::Refused(number) => refusing(number),
+    match begun(file, tables) {
+        Ok(run) => run,
+        Err(refusal) => refusing(u8::from(refusal)),
     }
 }
 
 // The lines of events, where the run has come to them.
-fn fill_first(
-    file: &[u8],
-    addresses: &mut [u32],
-    links: &mut [u32],
-    deleters: &mut [u32],
-    block: &mut [u8],
-    run: Run,
-) -> Filled
-    ensures left_off { LeftOff file.now
-        (world (lent_memory addresses.old links.old deleters.old run.sizes) run) block.old
-        (world (lent_memory addresses.new links.new deleters.new result.run.sizes) result.run)
-        block.new result.count }
+fn fill_first(file: &[u8], tables: &mut Tables, block: &mut [u8], run: Run) -> Filled
+    ensures same { SameTables tables.old tables.new }
+    ensures left_off { LeftOff file.now (world (memory_of tables.old run.sizes) run) block.old
+        (world (memory_of tables.new result.run.sizes) result.run) block.new result.count }
     ensures count_in_bounds { result.count ≤ length block.new }
     ensures ready { Ready result.run.phase (length block.new - result.count) }
 {
-    let phase = run.phase;
-    match phase {
-        Phase::Refusing(_) => Filled { count: 0, run },
-        Phase::Acting => fill_lines(file, addresses, links, deleters, block, run),
-        Phase::Walking(_) => Filled { count: 0, run },
-        Phase::Over => Filled { count: 0, run },
+    match run.phase {
+        Phase::Acting => fill_lines(file, tables, block, run),
+        Phase::Refusing(_) | Phase::Walking(_) | Phase::Over => Filled { count: 0, run },
     }
 }
 
 // Fills a block with whole lines, and with whole addresses of the last line, from where the run stands. A block of fewer than 64 bytes is too
 // short: nothing is put into it, and the run stays.
-pub fn fill(
-    file: &[u8],
-    addresses: &mut [u32],
-    links: &mut [u32],
-    deleters: &mut [u32],
-    block: &mut [u8],
-    run: Run,
-) -> Filled
-    ensures count_after { stop (world (lent_memory addresses.new links.new deleters.new result.run.sizes) result.run)
-        block.new result.count ≡
-        fills file.now (world (lent_memory addresses.old links.old deleters.old run.sizes) run)
-        block.old }
+pub fn fill(file: &[u8], tables: &mut Tables, block: &mut [u8], run: Run) -> Filled
+    ensures same { SameTables tables.old tables.new }
+    ensures count_after { stop (world (memory_of tables.new result.run.sizes) result.run) block.new result.count ≡
+        fills file.now (world (memory_of tables.old run.sizes) run) block.old }
     ensures count_in_bounds { result.count ≤ length block.new }
 {
-    let first = fill_first(file, addresses, links, deleters, block, run);
-    let count = first.count;
-    let on = first.run;
-    fill_rest(addresses, links, block, count, on)
+    let first = fill_first(file, tables, block, run);
+    let addresses = &mut *tables.addresses;
+    let links = &mut *tables.links;
+    fill_rest(addresses, links, block, first.count, first.run)
 }

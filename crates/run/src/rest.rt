@@ -52,8 +52,7 @@ fn put_next(addresses: &[u32], links: &[u32], sizes: Sizes, part: &mut [u8], pha
             }
         }
         Phase::Walking(node) => put_ahead(addresses, links, sizes, part, node),
-        Phase::Acting => Added { count: 0, phase },
-        Phase::Over => Added { count: 0, phase },
+        Phase::Acting | Phase::Over => Added { count: 0, phase },
     }
 }
 
@@ -62,9 +61,7 @@ fn stops(room: usize, phase: Phase) -> bool
     ensures { result ≡ stops_at room phase }
 {
     match phase {
-        Phase::Refusing(_) => room < 64,
-        Phase::Acting => room < 64,
-        Phase::Walking(_) => room < 64,
+        Phase::Refusing(_) | Phase::Acting | Phase::Walking(_) => room < 64,
         Phase::Over => true,
     }
 }
@@ -91,7 +88,7 @@ pub(crate) fn fill_rest(
             return Filled { count: at, run };
         }
         let next = put_next(addresses, links, sizes, &mut block[at..], phase);
-        at = at + next.count;
+        at += next.count;
         phase = next.phase;
     }
 }

@@ -7,11 +7,13 @@ use native.Mathlib.Omega.{arith}
 use native.Mathlib.Numerals.{add-one}
 use native.Mathlib.Nat.{mul_assoc, mul-one, zero-add, suc-add}
 use borrow.Author.Tests.{lt-ltb, le-ltb, ltb-true, ltb-false}
-use lib.ListN.{length, take, length-append}
+use lib.ListN.{length, take, get_or, length-append}
 use lib.Seq.{take_all, take-append-le}
 use lib.Dec.{ltb}
-use mir.Syntax.{w32}
+use mir.Syntax.{w32, w64}
 use mir.Val.{Fits}
+use Rattle.std.proofs.lemmas.Nat.{le_bytes_8}
+use Rattle.std.specs.Int.{from_le_bytes, to_le_bytes}
 use Rattle.text.specs.Text.{digits, decimal}
 use Rattle.text.specs.Digits.{last_digits, tens}
 
@@ -44,14 +46,6 @@ decimal_more n h s =
 -- how many digits
 length_more : (n : ℕ) → 10 ≤ n → n < 4294967296 → length (decimal n) ≡ suc (length (decimal (n / 10)))
 length_more n h s = rw (decimal_more n h s, length-append, add-one)
-
-pub places_one : (n : ℕ) → n < 10 → 1 ≡ length (decimal n)
-places_one n h = sym (ap length (decimal_one n h))
-
-pub places_more : (k n : ℕ) → n < 4294967296 → power k ≤ n → n < power (suc k) → suc (suc k) ≡ length (decimal n)
-places_more zero n s l h = ap suc (places_one (n / 10) (omega arith)) ∙ sym (length_more n l s)
-places_more (suc k) n s l h =
-    ap suc (places_more k (n / 10) (omega arith) (omega arith) (omega arith)) ∙ sym (length_more n (omega arith) s)
 
 -- as many of its last digits as it has are the number
 last_one : (n : ℕ) → n < 10 → decimal n ≡ last_digits (length (decimal n)) n
@@ -95,6 +89,22 @@ pub length_last : (k n : ℕ) → length (last_digits k n) ≡ k
 unfolding last_digits
 length_last zero n = refl
 length_last (suc k) n = simp length-append (omega (arith, length_last k (n / 10)))
+
+-- each is a byte
+bytes_push : (xs : List ℕ) (x : ℕ) → x < 256 → ((i : ℕ) → get_or xs i 0 < 256) → (i : ℕ) → get_or (xs ++ (x ∷ [])) i 0 < 256
+bytes_push [] x h few zero = h
+bytes_push [] x h few (suc i) = omega arith
+bytes_push (y ∷ xs) x h few zero = few 0
+bytes_push (y ∷ xs) x h few (suc i) = bytes_push xs x h (λ j. few (suc j)) i
+
+last_bytes : (k n i : ℕ) → get_or (last_digits k n) i 0 < 256
+unfolding last_digits
+last_bytes zero n i = omega arith
+last_bytes (suc k) n i = bytes_push (last_digits k (n / 10)) (48 + n % 10) (omega arith) (last_bytes k (n / 10)) i
+
+-- so that the bytes of a word that holds eight of them are these
+pub eight_bytes : (n w : ℕ) → w ≡ from_le_bytes w64 (last_digits 8 n) → to_le_bytes w64 w ≡ last_digits 8 n
+eight_bytes n w e = le_bytes_8 (last_digits 8 n) w (length_last 8 n) (last_bytes 8 n) e
 
 -- with zeros after it, a number has the same first digits, and as many more
 lifted_below : (j k n : ℕ) → n < tens k → n * tens j < tens (j + k)

@@ -5,7 +5,7 @@ use mathlib.Core.Path.{◌≡◌, sym}
 use Prim.Native.Nat.{ℕ, ◌-◌, ◌≤◌}
 use native.Mathlib.Omega.{arith}
 use borrow.Author.Tests.{eq-eqb, ne_eqb}
-use lib.ListN.{length, take, drop, length-append, length-take}
+use lib.ListN.{length, take, drop, length-append}
 use lib.Seq.{take_at}
 use Rattle.record.specs.Record.{false_answer, true_answer}
 use Rattle.record.specs.declared.Outcome.{Outcome}
@@ -61,6 +61,3 @@ module _ (o : Outcome) (found ended : List ℕ) (k : ℕ) (e : put ended k ≡ p
 
   pub text_put : (part : List ℕ) (x : Put) → x ≡ puts (take (k - 1 - 1) (drop 1 ended)) part → x ≡ puts (outcome_text o) part
   text_put part x = rw text_within (λ f. f)
-
-pub text_few : (ended : List ℕ) (k r : ℕ) → r ≡ length (take (k - 1 - 1) (drop 1 ended)) → k ≤ 20 → r ≤ 18
-text_few ended k r h few = omega (arith, length-take (k - 1 - 1) (drop 1 ended))

@@ -8,7 +8,7 @@ use native.Mathlib.Nat.{zero-add}
 use borrow.Author.Tests.{lt-ltb, le-ltb}
 use borrow.Rule.Slice.PartMut.{put_mid}
 use lib.ListN.{length, take, drop, set, length-append, length-set}
-use lib.Seq.{drop-cons, set-append_seam, take-append_seam, drop-append_seam, take-append-le, drop-append-add, drop-drop, take_all}
+use lib.Seq.{drop-cons, set-append_seam, take-append_seam, drop-append_seam, take-append-le, drop-append-add, drop-drop}
 use lib.Seq.{get_or-set_same, drop-set-lt, sets, sets-eq}
 use Rattle.basics.proofs.Rest.{rest_is, rest_back}
 use Rattle.text.specs.Put.{Put, put, puts, put_into}
@@ -75,11 +75,6 @@ begun a written part last k m e t n f l h =
     let d : drop (length written + (k + 4 - length written)) last ≡ drop (length written + (k + 4 - length written)) part =
     rw (g, drop-append-add, drop-drop) in
     record { begins = rw (g, take-append-le k written _ l) t; stays = rw r at d; counted = n; few = f }
-
-pub begun_all : (a part last : List ℕ) (k : ℕ) → put last k ≡ puts a part → k ≤ 10 → Begun a part last k
-begun_all a part last k e f =
-    let n : k ≡ length a = (λ i. (e i).count) in
-    begun a a part last k k e (take_all k a (omega arith)) n f (omega arith) (omega arith)
 
 -- bytes so begun, and then others, at least four, into the rest
 pub put_over : (a b part mid last : List ℕ) (k m : ℕ) → Begun a part mid k → 4 ≤ length b

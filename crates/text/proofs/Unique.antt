@@ -1,5 +1,5 @@
--- What a writer promises fixes what it leaves: `put_line`, `put_outcome`, `put_keys`, `put_number`, `put_address` and `put_newline` all promise
--- this equation, each of its own bytes. Rests on Put.
+-- What a writer promises fixes what it leaves: `put_line`, `put_refusal`, `put_outcome`, `put_keys`, `put_number`, `put_address` and `put_newline`
+-- all promise this equation, each of its own bytes. Rests on Put.
 use mathlib.Core.List.{List}
 use mathlib.Core.Path.{◌≡◌, sym, ◌∙◌}
 use Prim.Native.Nat.{ℕ}

@@ -6,11 +6,6 @@ unfoldable pub last_digits : ℕ → ℕ → List ℕ
 last_digits zero n = []
 last_digits (suc k) n = last_digits k (n / 10) ++ ((48 + n % 10) ∷ [])
 
--- bytes in one number, the first lowest
-unfoldable pub word : List ℕ → ℕ
-word [] = 0
-word (b ∷ bytes) = b + 256 * word bytes
-
 -- four numbers of sixteen bits in one, the first lowest
 abbrev pub lanes : ℕ → ℕ → ℕ → ℕ → ℕ
 lanes a b c d = a + 65536 * b + 4294967296 * c + 281474976710656 * d

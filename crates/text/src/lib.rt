@@ -4,14 +4,16 @@
 #![tactic(auto)]
 
 ghost use Rattle.std.specs.Prelude.{◌≡◌, [], ◌∷◌, ◌++◌, ◌-◌, ◌<◌, ◌≤◌, length};
+ghost use Rattle.std.specs.Int.{from_le_bytes, w64};
 ghost use Rattle.text.specs.Text.{decimal, space, newline, keys_word, outcome_text, line_end, line};
-ghost use Rattle.text.specs.Digits.{last_digits, word, pairs_of, tens, Begun};
+ghost use Rattle.text.specs.Digits.{last_digits, pairs_of, tens, Begun};
 ghost use Rattle.text.specs.Put.{put, puts, put_into};
 ghost use Rattle.record.specs.declared.Outcome.TheVariants.{Refused, Answered};
 
 use record::{Address, FALSE, Outcome, TRUE};
 
 // How many decimal digits a number has; those of a long run's lines are told first.
+#[tactic(auto, unfolding(crate::specs::Text::decimal, crate::specs::Text::digits))]
 fn places(n: u32) -> usize
     ensures { result ≡ length (decimal n) }
 {
@@ -31,6 +33,7 @@ fn places(n: u32) -> usize
 }
 
 // Those of a short number.
+#[tactic(auto, unfolding(crate::specs::Text::decimal, crate::specs::Text::digits))]
 fn places_few(n: u32) -> usize
     requires { n < 1000000 }
     ensures { result ≡ length (decimal n) }
@@ -60,12 +63,10 @@ fn put_decimal(part: &mut [u8], n: u32) -> usize
     ensures upper_bound { result ≤ 10 }
 {
     let count = places(n);
-    let mut i = count;
     let mut rest = n;
-    while 0 < i {
-        i -= 1;
+    for i in (0..count).rev() {
         part[i] = b'0' + (rest % 10) as u8;
-        rest = rest / 10;
+        rest /= 10;
     }
     count
 }
@@ -86,7 +87,7 @@ fn pairs(n: u32) -> u64
 // 256 times a pair, less 256 * 10 - 1 times its tens, is its tens below its ones; and `0` is added in each byte.
 fn spelt(n: u32) -> u64
     requires { n < 100000000 }
-    ensures { result ≡ word (last_digits 8 n) }
+    ensures { result ≡ from_le_bytes w64 (last_digits 8 n) }
 {
     let pairs = pairs(n);
     let shares = pairs * 103 / 1024;
@@ -104,14 +105,7 @@ fn put_eight(part: &mut [u8], n: u32) -> usize
     ensures { put part.new result ≡ puts (last_digits 8 n) part.old }
 {
     let text = spelt(n);
-    part[0] = (text % 256) as u8;
-    part[1] = (text / 256 % 256) as u8;
-    part[2] = (text / 65536 % 256) as u8;
-    part[3] = (text / 16777216 % 256) as u8;
-    part[4] = (text / 4294967296 % 256) as u8;
-    part[5] = (text / 1099511627776 % 256) as u8;
-    part[6] = (text / 281474976710656 % 256) as u8;
-    part[7] = (text / 72057594037927936) as u8;
+    part[..8].copy_from_slice(&text.to_le_bytes());
     8
 }
 
@@ -131,6 +125,7 @@ fn lift(count: usize) -> u32
 }
 
 // The number of a line, where at least four bytes are to follow: no more than four past the number are changed, and those take their place.
+#[tactic(auto, using(crate::proofs::Decimal::eight_fits, crate::proofs::Decimal::eight_fits_32))]
 fn put_line_number(part: &mut [u8], n: u32) -> usize
     requires { 14 ≤ length part.old }
     ensures { Begun (decimal n) part.old part.new result }
@@ -152,25 +147,14 @@ fn put_text(part: &mut [u8], text: &[u8]) -> usize
     ensures result_after { put part.new result ≡ puts text.now part.old }
     ensures value { result ≡ length text.now }
 {
-    let mut i: usize = 0;
-    while i < text.len() {
-        part[i] = text[i];
-        i += 1;
+    for (i, &byte) in text.iter().enumerate() {
+        part[i] = byte;
     }
-    i
-}
-
-// One byte.
-fn put_byte(part: &mut [u8], byte: u8) -> usize
-    requires { 1 ≤ length part.old }
-    ensures result_after { put part.new result ≡ puts (byte ∷ []) part.old }
-    ensures value { result ≡ 1 }
-{
-    part[0] = byte;
-    1
+    text.len()
 }
 
 // A number and the end of its line.
+#[tactic(auto, using(crate::proofs::Puts::put_byte, crate::proofs::Puts::put_stored, crate::proofs::Decimal::decimal_within, crate::proofs::Decimal::decimal_one))]
 fn put_ended(part: &mut [u8], n: u32) -> usize
     requires { 11 ≤ length part.old }
     ensures result_after { put part.new result ≡ puts (decimal n ++ (newline ∷ [])) part.old }
@@ -194,7 +178,7 @@ fn put_refused(part: &mut [u8], number: u8) -> usize
     ensures upper_bound { result ≤ 20 }
 {
     let k = put_text(part, b" refused ");
-    let m = put_ended(&mut part[k..], number as u32);
+    let m = put_ended(&mut part[k..], u32::from(number));
     k + m
 }
 
@@ -229,7 +213,9 @@ fn put_line_end(part: &mut [u8], outcome: Outcome) -> usize
     }
 }
 
-// The line of an event: its number, and what it came to.
+// The line of an event: its number, and what it came to. It stands in the caller's loop: a call for each event would cost more than a tenth.
+#[tactic(auto, using(crate::proofs::Puts::too_short))]
+#[inline(always)]
 pub fn put_line(part: &mut [u8], number: u32, outcome: Outcome) -> usize
     ensures result_after { put part.new result ≡ put_into (line number outcome) part.old }
     ensures upper_bound { result ≤ 30 }
@@ -242,21 +228,16 @@ pub fn put_line(part: &mut [u8], number: u32, outcome: Outcome) -> usize
     k + m
 }
 
-// The line of a refusal that no event had: of a header, or of what can't be read on. It does not go by `put_line`, which so has one caller, and the
-// compiler takes it into that caller's loop.
+// The line of a refusal that no event had: of a header, or of what can't be read on.
 pub fn put_refusal(part: &mut [u8], number: u32, refusal: u8) -> usize
     ensures result_after { put part.new result ≡ put_into (line number (Refused refusal)) part.old }
     ensures upper_bound { result ≤ 30 }
 {
-    if part.len() < 32 {
-        return 0;
-    }
-    let k = put_line_number(part, number);
-    let m = put_refused(&mut part[k..], refusal);
-    k + m
+    put_line(part, number, Outcome::Refused(refusal))
 }
 
 // What an event came to: as the line of an event ends, without the space before it and the end of the line.
+#[tactic(auto, using(crate::proofs::Puts::too_short))]
 pub fn put_outcome(part: &mut [u8], outcome: Outcome) -> usize
     ensures result_after { put part.new result ≡ put_into (outcome_text outcome) part.old }
     ensures upper_bound { result ≤ 18 }
@@ -282,6 +263,7 @@ pub fn put_keys(part: &mut [u8]) -> usize
 }
 
 // A number after a space.
+#[tactic(auto, using(crate::proofs::Puts::too_short))]
 pub fn put_number(part: &mut [u8], number: u32) -> usize
     ensures result_after { put part.new result ≡ put_into (space ∷ decimal number) part.old }
     ensures upper_bound { result ≤ 11 }
@@ -289,7 +271,7 @@ pub fn put_number(part: &mut [u8], number: u32) -> usize
     if part.len() < 32 {
         return 0;
     }
-    let k = put_byte(part, b' ');
+    let k = put_text(part, b" ");
     let m = put_decimal(&mut part[k..], number);
     k + m
 }
@@ -311,5 +293,5 @@ pub fn put_newline(part: &mut [u8]) -> usize
     if part.len() < 32 {
         return 0;
     }
-    put_byte(part, b'\n')
+    put_text(part, b"\n")
 }

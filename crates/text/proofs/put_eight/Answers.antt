@@ -1,10 +1,12 @@
--- Byte after byte of the word, the first lowest. Rests on Lanes and Puts.
-use Rattle.std.proofs.Common.{arith}
-use Rattle.text.proofs.Lanes.{lane_bytes, bytes_spelt}
-use Rattle.text.proofs.Puts.{put_stored}
+-- The bytes of the word, the first lowest, are the digits. Rests on Decimal.
+use Rattle.std.proofs.Common.{ℕ, List, ◌++◌, drop, ap, ◌∙◌}
+use Rattle.text.specs.Digits.{last_digits}
+use Rattle.text.specs.Put.{put}
+use Rattle.text.proofs.Decimal.{eight_bytes}
 use Rattle.text.proofs.put_eight.Goals as goal
 
 pub returns : goal.returns
+unfolding last_digits
 returns c =
-    let w = c.spelt-text.result in
-    rw (← bytes_spelt c.args.n w (omega arith) c.spelt-text.ensures) (put_stored (lane_bytes w) c.args.part.now (omega arith))
+    ap (λ (bytes : List ℕ). put (bytes ++ drop 8 c.args.part.now) 8)
+    (c.copy_from_slice.ensures.after ∙ c.to_le_bytes.ensures ∙ eight_bytes c.args.n c.spelt-text.result c.spelt-text.ensures)

@@ -2,11 +2,8 @@
 use Rattle.std.proofs.Common.{rules}
 use Rattle.text.specs.Text.{line}
 use Rattle.text.proofs.Lengths.{outcome_some}
-use Rattle.text.proofs.Puts.{put_over, too_short, into_room}
+use Rattle.text.proofs.Puts.{put_over, into_room}
 use Rattle.text.proofs.put_line.Goals as goal
-
-pub returns-then-part-lt32-clause-result_after : goal.returns-then-part-lt32-clause-result_after
-returns-then-part-lt32-clause-result_after c = search (rules, too_short)
 
 pub returns-clause-result_after : goal.returns-clause-result_after
 unfolding line

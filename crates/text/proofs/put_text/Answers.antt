@@ -1,10 +1,9 @@
 -- One byte more. Rests on the basics' Rest.
 use Rattle.std.proofs.Common.{arith}
-use Rattle.std.proofs.Math.ListN.{length-set}
 use Rattle.basics.proofs.Rest.{copy_more}
 use Rattle.text.proofs.put_text.Goals as goal
 
 pub loop-i-preserved : goal.loop-i-preserved
 loop-i-preserved c =
     let l = c.loop-i in
-    (omega arith, simp length-set (omega arith), rw l.invariant.2 (copy_more c.args.part.now c.args.text.now l.i (omega arith) (omega arith)))
+    rw l.invariant (copy_more c.args.part.now c.args.text.now l.i (omega (arith, l.auto)) (omega (arith, l.auto)))
