@@ -6,13 +6,16 @@ mod reading;
 mod writing;
 
 ghost use Rattle.std.specs.Prelude.{◌≡◌, drop};
-ghost use Rattle.table.specs.Events.{leaves_in, event as event_in};
+ghost use Rattle.table.specs.Events.{state_of, leaves_in, event as event_in};
+ghost use Rattle.words.specs.LentMemory.{lent_memory};
 ghost use Rattle.cases.specs.Lent.{lent_state};
 
 use lent::Said;
 use reading::{Case, Numbers};
+use record::{Event, Record};
 use std::io::{Read, Write};
 use streams::{ReadFailed, WriteFailed};
+use words::{Sizes, Tables};
 use writing::Block;
 
 // What keeps the program from reading its input or writing its output.
@@ -44,7 +47,27 @@ impl Trouble {
     }
 }
 
-// Works an event on what is lent; the records past those that are lent stay.
+// Works an event on lent words and records.
+fn act_on(
+    addresses: &mut [u32],
+    links: &mut [u32],
+    deleters: &mut [u32],
+    sizes: Sizes,
+    row: &mut [Record],
+    event: Event,
+) -> Said
+    ensures { leaves_in (state_of (lent_memory addresses.new links.new deleters.new result.sizes) row.new) result.outcome ≡
+        event_in (state_of (lent_memory addresses.old links.old deleters.old sizes) row.old) event }
+{
+    let mut tables = Tables {
+        addresses,
+        links,
+        deleters,
+    };
+    lent::act_in(&mut tables, sizes, row, event)
+}
+
+// Works the event of a case on what it lends; the records past those that it lends stay.
 fn act(case: &mut Case) -> Said
     ensures acted { leaves_in (lent_state case.new result.sizes) result.outcome ≡ event_in (lent_state case.old case.old.sizes) case.old.event }
     ensures rest { drop case.old.row.count case.new.row.items ≡ drop case.old.row.count case.old.row.items }
@@ -53,7 +76,8 @@ fn act(case: &mut Case) -> Said
     let links = &mut case.links;
     let deleters = &mut case.deleters;
     let row = &mut case.row;
-    lent::act_in(
+    // `[0..n]`, since the check has no rule for `[..n]` of a field beside a ghost field
+    act_on(
         &mut addresses.items[0..addresses.count],
         &mut links.items[0..links.count],
         &mut deleters.items[0..deleters.count],

@@ -4,6 +4,7 @@
 use printer::{PrintError, print_output};
 use std::io::{Read, Write};
 use streams::ReadFailed;
+use words::Tables;
 
 // What keeps the program from reading its input or writing its output.
 #[derive(Clone, Copy, Debug)]
@@ -42,15 +43,13 @@ fn run_file<R: Read, W: Write>(from: &mut R, to: &mut W) -> Result<(), Trouble> 
     let mut addresses = [0u32; 4096];
     let mut links = [0u32; 4096];
     let mut deleters = [0u32; 4096];
+    let mut tables = Tables {
+        addresses: &mut addresses,
+        links: &mut links,
+        deleters: &mut deleters,
+    };
     let mut block = [0u8; 65536];
-    print_output(
-        to,
-        &file[..length],
-        &mut addresses,
-        &mut links,
-        &mut deleters,
-        &mut block,
-    )?;
+    print_output(to, &file[..length], &mut tables, &mut block)?;
     Ok(())
 }
 

@@ -9,6 +9,7 @@ use numbers::read_number;
 use printer::{PrintError, print_output};
 use std::io::{Read, Write};
 use streams::ReadFailed;
+use words::Tables;
 
 // What keeps the program from going on: the input can't be read; a length is no number, or the input ends inside a length or a file; the output
 // takes no more.
@@ -109,20 +110,18 @@ fn run_files<R: Read, W: Write>(from: &mut R, to: &mut W) -> Result<(), Trouble>
     let mut addresses = [0u32; 4096];
     let mut links = [0u32; 4096];
     let mut deleters = [0u32; 4096];
+    let mut tables = Tables {
+        addresses: &mut addresses,
+        links: &mut links,
+        deleters: &mut deleters,
+    };
     let mut block = [0u8; 65536];
     // more files than an input can hold
     for _ in 0..u64::MAX {
         let Some(length) = next_file(from, &mut space, &mut block)? else {
             return Ok(());
         };
-        print_output(
-            to,
-            &space[..length],
-            &mut addresses,
-            &mut links,
-            &mut deleters,
-            &mut block,
-        )?;
+        print_output(to, &space[..length], &mut tables, &mut block)?;
     }
     Ok(())
 }

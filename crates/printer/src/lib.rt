@@ -2,7 +2,7 @@
 #![tactic(auto)]
 
 ghost use Rattle.std.specs.Prelude.{◌≤◌, is_ok, length};
-ghost use Rattle.words.specs.LentMemory.{lent_memory};
+ghost use Rattle.words.specs.LentMemory.{memory_of, SameTables};
 ghost use Rattle.run.specs.Pieces.{unstated, begins};
 ghost use Rattle.blocks.specs.ToCome.{to_come};
 ghost use Rattle.streams.specs.Written.{Written};
@@ -11,6 +11,7 @@ ghost use Rattle.printer.specs.Printing.{Printed, PrintedAs, WrittenAs};
 use run::{begin, fill};
 use std::io::Write;
 use streams::WriteFailed;
+use words::Tables;
 
 // Why not all was written: the writer took no more; or the block is too short for any piece of the output, and nothing was touched.
 #[derive(Clone, Copy, Debug, PartialEq, Eq)]
@@ -34,22 +35,21 @@ impl From<WriteFailed> for PrintError {
 fn print_blocks<W: Write>(
     to: &mut W,
     file: &[u8],
-    addresses: &mut [u32],
-    links: &mut [u32],
-    deleters: &mut [u32],
+    tables: &mut Tables,
     block: &mut [u8],
 ) -> Result<(), WriteFailed>
+    ensures same { SameTables tables.old tables.new }
     ensures printed { Printed file.now
-        (begins file.now (lent_memory addresses.old links.old deleters.old unstated))
-        (length block.old) (lent_memory addresses.new links.new deleters.new unstated)
+        (begins file.now (memory_of tables.old unstated))
+        (length block.old) (memory_of tables.new unstated)
         block.new (is_ok result) }
     ensures written { 64 ≤ length block.old → Written (W.contents to.old) (W.contents to.new)
-        (to_come file.now (begins file.now (lent_memory addresses.old links.old deleters.old unstated)))
+        (to_come file.now (begins file.now (memory_of tables.old unstated)))
         (is_ok result) }
 {
-    let mut run = begin(file, addresses, links, deleters);
+    let mut run = begin(file, tables);
     loop {
-        let filled = fill(file, addresses, links, deleters, block, run);
+        let filled = fill(file, tables, block, run);
         if filled.count == 0 {
             return Ok(());
         }
@@ -62,21 +62,20 @@ fn print_blocks<W: Write>(
 pub fn print_output<W: Write>(
     to: &mut W,
     file: &[u8],
-    addresses: &mut [u32],
-    links: &mut [u32],
-    deleters: &mut [u32],
+    tables: &mut Tables,
     block: &mut [u8],
 ) -> Result<(), PrintError>
+    ensures same { SameTables tables.old tables.new }
     ensures printed { PrintedAs file.now
-        (lent_memory addresses.old links.old deleters.old unstated) block.old
-        (lent_memory addresses.new links.new deleters.new unstated) block.new result }
+        (memory_of tables.old unstated) block.old
+        (memory_of tables.new unstated) block.new result }
     ensures written { WrittenAs (W.contents to.old) (W.contents to.new)
-        (to_come file.now (begins file.now (lent_memory addresses.old links.old deleters.old unstated)))
+        (to_come file.now (begins file.now (memory_of tables.old unstated)))
         result }
 {
     if block.len() < 64 {
         return Err(PrintError::TooShort);
     }
-    print_blocks(to, file, addresses, links, deleters, block)?;
+    print_blocks(to, file, tables, block)?;
     Ok(())
 }
