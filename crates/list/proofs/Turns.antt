@@ -17,7 +17,7 @@ use Rattle.record.specs.declared.Outcome.{Outcome}
 use Rattle.record.specs.declared.Outcome.TheVariants.{Refused, Accepted, Answered}
 use Rattle.table.specs.Words.{Memory, links≔, deleters≔, link_at, deleter_at, target_of, is_marked, in_use, written, deleter_word, no_deleter}
 use Rattle.table.specs.Words.{nothing, link_is, deleter_is}
-use Rattle.table.specs.Places.{own, Next, goes, uses_own, node_of, link_of, Place, place_of, Row, row}
+use Rattle.table.specs.Places.{own, Field, Link, Next, goes, uses_own, node_of, link_of, Place, place_of, Row, row}
 use Rattle.table.specs.Places.{p0, p1, p2, p3, p4, p5, p6, p7, p8, p9, p10, p11, p12, p13, p14, p15, p16, p17, p18, p19, off}
 use Rattle.table.specs.Places.{read_link, write_link, swap_link, read_deleter, swap_deleter, write_node, own_record, hand_out}
 use Rattle.table.specs.Steps.{usable, all_usable, all_used, in_range, turn_in, word_met, own_usable, record_after, field_of, access_of}
@@ -26,7 +26,8 @@ use Rattle.table.proofs.Laws.Ranges.{condition}
 use Rattle.words.specs.LentMemory.{lent_memory, sized}
 use Rattle.words.specs.LentWords.{link_met, SwapLeft, swap_left, swapped, swap_of}
 use Rattle.words.specs.declared.LinkRead.{LinkRead}
-use Rattle.list.specs.Accesses.{◌>>=◌, usable_node, link_read, deleter_read, write_made, swap_made, access_made, link_written, link_swap, deleter_swap}
+use Rattle.words.specs.declared.Swapped.{Swapped}
+use Rattle.list.specs.Accesses.{◌>>=◌, AccessLeft, access_left, usable_node, link_read, deleter_read, write_made, swap_made, access_made, link_written, link_swap, deleter_swap}
 use Rattle.list.specs.declared.Acted.{Acted}
 use Rattle.words.specs.declared.Sizes.{Sizes}
 use Rattle.list.specs.Acting.{left}
@@ -183,6 +184,16 @@ module _ (sizes : Sizes) (p : Process) (r : Record) (addresses links deleters : 
       ap (left m') is ∙ turned_is m' told refl ∙ ap (leaves r Accepted) left_so
       ∙ ap (λ (o : Outcome). leaves r o (row_made lent p r here)) (sym (accepted_before lent p r n early))
       ∙ made lent p r here ∙ ranged_step lent p r ranged n at
+
+  -- a row that swaps a link, from what the swap met: places 2, 4, 7 and 8
+  pub swap_link_lem : (n : ℕ) → in_range r ≡ true → r.lost.place ≡ n →
+      (f : Field) (old new : Link) (done lost : Record) → row addresses (place_of n) r ≡ swap_link f old new done lost →
+      (words : List ℕ) (met : Option Swapped) → access_left words met ≡ link_swap lent r f old new →
+      left (links≔ words lent) (turned sizes r (option_map (λ s. cond s.wrote done lost) met)) ≡ step lent p r
+  swap_link_lem n ranged at f old new done lost e words met is =
+      turned_is (links≔ words lent) (option_map (λ s. cond s.wrote done lost) met) refl
+      ∙ ap (λ (x : AccessLeft Swapped). leaves r Accepted (row_left (links≔ x.words lent) (option_map (λ s. cond s.wrote done lost) x.met))) is
+      ∙ made lent p r (swap_link f old new done lost) ∙ ap (worked lent p r) (sym e) ∙ ranged_step lent p r ranged n at
 
   -- the last
   pub answers : a ≡ acted_as sizes (r ▸ status≔ idle_status) (Answered r.lost.pending) → in_range r ≡ true → r.lost.place ≡ 19 →
