@@ -1,6 +1,6 @@
 -- The block that lines are gathered in, how much of it is used, and how many bytes each part of a line takes at most. Rests on the room that the
 -- writers of text ask for.
-use Rattle.std.specs.Prelude.{◌≡◌, List, ℕ, ◌+◌, ◌-◌, ◌*◌, ◌≤◌, length}
+use Rattle.std.specs.Prelude.{ℕ, ◌+◌, ◌-◌, ◌*◌}
 use Rattle.text.specs.Put.{room_asked}
 
 -- the length of the block; its first half, in which every line starts
@@ -13,11 +13,6 @@ half_block = 32768
 -- where the parts of a line end at most, so that every writer has the room that it asks for
 abbrev pub last_end : ℕ
 last_end = block_bytes - room_asked
-
--- of the block so many bytes are used, and no more than so many
-pub record Gathered (block : List ℕ) (used most : ℕ) : Type 0 where
-  pub long : length block ≡ block_bytes
-  pub within : used ≤ most
 
 -- ---- what the parts of a line take at most
 

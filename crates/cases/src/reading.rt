@@ -1,225 +1,141 @@
 // The format of the cases: each is its stated sizes and its count; the addresses, links and deleters, each its lent length and its words; the
 // row's lent length and its records; the event. Every number is in 01's form, and a bad one makes the case bad.
-ghost use Rattle.std.specs.Prelude.{◌≤◌};
-ghost use Rattle.cases.specs.Lengths.{Whole};
+ghost use Rattle.std.specs.Prelude.{◌≤◌, IfSome};
 
-use numbers::NumberRead;
 use record::{Action, Address, Event, Kept, Lost, Node, Process, Record};
 use words::Sizes;
 
-// The largest number, the most words or records that are lent, the largest byte.
-const MOST: u32 = 4294967295;
-
+// The most words or records that are lent.
 const MOST_LENT: u32 = 64;
 
-const MOST_BYTE: u32 = 255;
-
-// A number taken from the input, and the place after it; once one was not good, none after it is.
-#[derive(Clone, Copy)]
-pub(crate) struct Taken {
-    pub(crate) number: u32,
-    pub(crate) next: usize,
-    pub(crate) good: bool,
+// What is lent of a table or of the row: the first of an array.
+#[derive(Drop)]
+pub(crate) struct Lent<T> {
+    pub(crate) items: [T; 64],
+    pub(crate) count: usize,
+    ghost count_bound: { count ≤ 64 },
 }
 
-// The records that are lent: the first of an array.
-#[derive(Clone, Copy)]
-pub(crate) struct LentRecords {
-    pub(crate) records: [Record; 64],
-    pub(crate) lent: usize,
-}
-
-// The parts of a case, each with the number taken last; a good case ends with a good number. Of a table the first words of an array are lent.
-#[derive(Clone, Copy)]
-pub(crate) struct TakenSizes {
+// A case: what is lent, and the event on it.
+#[derive(Drop)]
+pub(crate) struct Case {
     pub(crate) sizes: Sizes,
-    pub(crate) last: Taken,
-}
-
-#[derive(Clone, Copy)]
-pub(crate) struct TakenWords {
-    pub(crate) words: [u32; 64],
-    pub(crate) lent: usize,
-    pub(crate) last: Taken,
-}
-
-#[derive(Clone, Copy)]
-struct TakenLost {
-    lost: Lost,
-    last: Taken,
-}
-
-#[derive(Clone, Copy)]
-struct TakenKept {
-    kept: Kept,
-    last: Taken,
-}
-
-#[derive(Clone, Copy)]
-struct TakenRecord {
-    record: Record,
-    last: Taken,
-}
-
-#[derive(Clone, Copy)]
-pub(crate) struct TakenRow {
-    pub(crate) row: LentRecords,
-    pub(crate) last: Taken,
-}
-
-#[derive(Clone, Copy)]
-pub(crate) struct TakenEvent {
+    pub(crate) addresses: Lent<u32>,
+    pub(crate) links: Lent<u32>,
+    pub(crate) deleters: Lent<u32>,
+    pub(crate) row: Lent<Record>,
     pub(crate) event: Event,
-    pub(crate) last: Taken,
 }
 
-// The next number, which is good if it is in its form and not above `most`; else 0.
-fn take(input: &[u8], before: Taken, most: u32) -> Taken
-    ensures { result.number ≤ most }
-{
-    if before.good {
-        let read = numbers::read_number(input, before.next);
-        if let NumberRead::Got(number, next) = read {
-            if number <= most {
-                return Taken {
-                    number,
-                    next,
-                    good: true,
-                };
-            }
+// The numbers of the input from a place on.
+#[derive(Drop)]
+pub(crate) struct Numbers<'a> {
+    input: &'a [u8],
+    next: usize,
+}
+
+impl<'a> Numbers<'a> {
+    pub(crate) fn new(input: &'a [u8]) -> Numbers<'a> {
+        Numbers { input, next: 0 }
+    }
+
+    // Whether none is left.
+    pub(crate) fn is_at_end(&self) -> bool {
+        self.input.len() <= self.next
+    }
+
+    // The next number, if it is in its form.
+    fn take(&mut self) -> Option<u32> {
+        let (number, next) = numbers::read_number(self.input, self.next).ok()?;
+        self.next = next;
+        Some(number)
+    }
+
+    // The next number, if it is not above `most`.
+    fn take_up_to(&mut self, most: u32) -> Option<u32>
+        ensures { IfSome result (λ number. number ≤ most) }
+    {
+        self.take().filter(|&number| number <= most)
+    }
+
+    fn take_byte(&mut self) -> Option<u8> {
+        u8::try_from(self.take()?).ok()
+    }
+
+    fn take_sizes(&mut self) -> Option<Sizes> {
+        Some(Sizes {
+            nodes: self.take()?,
+            processes: self.take()?,
+            count: self.take()?,
+        })
+    }
+
+    // What is lent of a table or of the row: how many, and each.
+    fn take_lent<T: Copy, F: Fn(&mut Numbers<'a>) -> Option<T>>(
+        &mut self,
+        blank: T,
+        take: F,
+    ) -> Option<Lent<T>>
+        requires { F.IsAlwaysCallable take }
+    {
+        let mut items = [blank; 64];
+        let count = self.take_up_to(MOST_LENT)? as usize;
+        for item in &mut items[..count] {
+            *item = take(self)?;
         }
+        Some(Lent { items, count })
     }
-    Taken {
-        number: 0,
-        next: before.next,
-        good: false,
+
+    fn take_lost(&mut self) -> Option<Lost> {
+        Some(Lost {
+            place: self.take_byte()?,
+            pred: Node(self.take()?),
+            curr: Node(self.take()?),
+            succ: Node(self.take()?),
+            pending: self.take_byte()?,
+            recovering: self.take_up_to(1)? == 1,
+        })
     }
-}
 
-// The sizes of the case that stands at a place.
-pub(crate) fn take_sizes(input: &[u8], at: usize) -> TakenSizes {
-    let start = Taken {
-        number: 0,
-        next: at,
-        good: true,
-    };
-    let nodes = take(input, start, MOST);
-    let processes = take(input, nodes, MOST);
-    let count = take(input, processes, MOST);
-    let sizes = Sizes {
-        nodes: nodes.number,
-        processes: processes.number,
-        count: count.number,
-    };
-    TakenSizes { sizes, last: count }
-}
-
-// The words of a table.
-pub(crate) fn take_words(input: &[u8], before: Taken) -> TakenWords
-    ensures { Whole result }
-{
-    let mut words = [0u32; 64];
-    let mut last = take(input, before, MOST_LENT);
-    let lent = last.number as usize;
-    for i in 0..lent {
-        last = take(input, last, MOST);
-        words[i] = last.number;
+    fn take_kept(&mut self) -> Option<Kept> {
+        Some(Kept {
+            status: self.take_byte()?,
+            kind: self.take_byte()?,
+            address: Address(self.take()?),
+            node: Node(self.take()?),
+            result: self.take_byte()?,
+        })
     }
-    TakenWords { words, lent, last }
-}
 
-fn take_lost(input: &[u8], before: Taken) -> TakenLost {
-    let place = take(input, before, MOST_BYTE);
-    let pred = take(input, place, MOST);
-    let curr = take(input, pred, MOST);
-    let succ = take(input, curr, MOST);
-    let pending = take(input, succ, MOST_BYTE);
-    let recovering = take(input, pending, 1);
-    let lost = Lost {
-        place: place.number as u8,
-        pred: Node(pred.number),
-        curr: Node(curr.number),
-        succ: Node(succ.number),
-        pending: pending.number as u8,
-        recovering: recovering.number == 1,
-    };
-    TakenLost {
-        lost,
-        last: recovering,
+    fn take_record(&mut self) -> Option<Record> {
+        let lost = self.take_lost()?;
+        let kept = self.take_kept()?;
+        Some(Record { lost, kept })
     }
-}
 
-fn take_kept(input: &[u8], before: Taken) -> TakenKept {
-    let status = take(input, before, MOST_BYTE);
-    let kind = take(input, status, MOST_BYTE);
-    let address = take(input, kind, MOST);
-    let node = take(input, address, MOST);
-    let result = take(input, node, MOST_BYTE);
-    let kept = Kept {
-        status: status.number as u8,
-        kind: kind.number as u8,
-        address: Address(address.number),
-        node: Node(node.number),
-        result: result.number as u8,
-    };
-    TakenKept { kept, last: result }
-}
-
-fn take_record(input: &[u8], before: Taken) -> TakenRecord {
-    let taken_lost = take_lost(input, before);
-    let taken_kept = take_kept(input, taken_lost.last);
-    let lost = taken_lost.lost;
-    let kept = taken_kept.kept;
-    let last = taken_kept.last;
-    let record = Record { lost, kept };
-    TakenRecord { record, last }
-}
-
-// The records of the row.
-pub(crate) fn take_row(input: &[u8], before: Taken) -> TakenRow
-    ensures { result.row.lent ≤ 64 }
-{
-    let mut records = [Record::fresh(); 64];
-    let mut last = take(input, before, MOST_LENT);
-    let lent = last.number as usize;
-    for i in 0..lent {
-        let taken = take_record(input, last);
-        let record = taken.record;
-        records[i] = record;
-        let next = taken.last;
-        last = next;
-    }
-    let row = LentRecords { records, lent };
-    TakenRow { row, last }
-}
-
-// The action of a kind.
-fn action_of(kind: u32, address: Address) -> Action {
-    match kind {
-        0 => Action::Insert(address),
-        1 => Action::Delete(address),
-        2 => Action::Find(address),
-        3 => Action::Step,
-        4 => Action::Stop,
-        _ => Action::Restart,
-    }
-}
-
-pub(crate) fn take_event(input: &[u8], before: Taken) -> TakenEvent {
-    let kind = take(input, before, 5);
-    let number = take(input, kind, MOST);
-    let process = Process(number.number);
-    if 2 < kind.number {
-        let action = action_of(kind.number, Address(0));
-        return TakenEvent {
-            event: Event { process, action },
-            last: number,
+    fn take_event(&mut self) -> Option<Event> {
+        let kind = self.take_up_to(5)?;
+        let process = Process(self.take()?);
+        let action = match kind {
+            0 => Action::Insert(Address(self.take()?)),
+            1 => Action::Delete(Address(self.take()?)),
+            2 => Action::Find(Address(self.take()?)),
+            3 => Action::Step,
+            4 => Action::Stop,
+            _ => Action::Restart,
         };
+        Some(Event { process, action })
     }
-    let address = take(input, number, MOST);
-    let action = action_of(kind.number, Address(address.number));
-    TakenEvent {
-        event: Event { process, action },
-        last: address,
+
+    // The next case, if each of its numbers is good.
+    pub(crate) fn take_case(&mut self) -> Option<Case> {
+        Some(Case {
+            sizes: self.take_sizes()?,
+            addresses: self.take_lent(0, Numbers::take)?,
+            links: self.take_lent(0, Numbers::take)?,
+            deleters: self.take_lent(0, Numbers::take)?,
+            row: self.take_lent(Record::fresh(), Numbers::take_record)?,
+            event: self.take_event()?,
+        })
     }
 }

@@ -4,7 +4,7 @@ ghost use Rattle.record.specs.Record.{tail_node};
 ghost use Rattle.record.specs.declared.Action.TheVariants as of;
 ghost use Rattle.table.specs.Words.{link_word, no_deleter};
 ghost use Rattle.table.specs.Events.{does, status_needed};
-ghost use Rattle.words.specs.LentMemory.{lent_memory};
+ghost use Rattle.words.specs.LentMemory.{memory_of, SameTables};
 ghost use Rattle.list.specs.Acting.{left};
 ghost use Rattle.list.specs.Rows.{one_more};
 
@@ -14,7 +14,7 @@ use crate::answers::{accepted, refused};
 use record::{
     Action, Address, DELETES, DOWN, FINDS, IDLE, INSERTS, NO_NODE, Node, RUNNING, Refusal, TAIL,
 };
-use words::Sizes;
+use words::{Sizes, Tables};
 
 // The status that an action needs.
 pub(crate) fn status_needed(action: Action) -> u8
@@ -28,21 +28,15 @@ pub(crate) fn status_needed(action: Action) -> u8
 }
 
 // The words of the next node: its address, its link unmarked to tail, deleter none.
-fn give_out(
-    addresses: &mut [u32],
-    links: &mut [u32],
-    deleters: &mut [u32],
-    taken: Node,
-    address: Address,
-)
-    ensures address { addresses.new ≡ set addresses.old taken.0 address.0 }
-    ensures link { links.new ≡ set links.old taken.0 (link_word tail_node false) }
-    ensures deleter { deleters.new ≡ set deleters.old taken.0 no_deleter }
+fn give_out(tables: &mut Tables, taken: Node, address: Address)
+    ensures same { SameTables tables.old tables.new }
+    ensures address { tables.new.addresses.now ≡ set tables.old.addresses.now taken.0 address.0 }
+    ensures link { tables.new.links.now ≡ set tables.old.links.now taken.0 (link_word tail_node false) }
+    ensures deleter { tables.new.deleters.now ≡ set tables.old.deleters.now taken.0 no_deleter }
 {
-    let link = words::link_word(TAIL, false);
-    words::write(addresses, taken, address.0);
-    words::write(links, taken, link);
-    words::write(deleters, taken, 0);
+    words::write(tables.addresses, taken, address.0);
+    words::write(tables.links, taken, words::link_word(TAIL, false));
+    words::write(tables.deleters, taken, 0);
 }
 
 impl Actor {
@@ -59,21 +53,16 @@ impl Actor {
 
     // Insert: takes the next node, sets its address, links it unmarked to tail, deleter none.
     #[tactic(auto, unfolding(table::specs::Events::does, table::specs::Words::given_out))]
-    fn insert(
-        self,
-        addresses: &mut [u32],
-        links: &mut [u32],
-        deleters: &mut [u32],
-        address: Address,
-    ) -> Acted
-        ensures { left (lent_memory addresses.new links.new deleters.new result.sizes) result ≡
-            does (lent_memory addresses.old links.old deleters.old self.sizes) self.process self.before (of.Insert address) }
+    fn insert(self, tables: &mut Tables, address: Address) -> Acted
+        ensures same { SameTables tables.old tables.new }
+        ensures left { left (memory_of tables.new result.sizes) result ≡
+            does (memory_of tables.old self.sizes) self.process self.before (of.Insert address) }
     {
         if self.sizes.count == self.sizes.nodes {
             return refused(self.sizes, self.before, Refusal::NoNodeLeft);
         }
         let taken = Node(self.sizes.count);
-        give_out(addresses, links, deleters, taken, address);
+        give_out(tables, taken, address);
         accepted(
             self.one_more(),
             self.before.request(0, INSERTS, address, taken),
@@ -82,18 +71,13 @@ impl Actor {
 
     // The action of a process that is there and has the status it needs.
     #[tactic(auto, unfolding(table::specs::Events::does))]
-    pub(crate) fn does(
-        self,
-        addresses: &mut [u32],
-        links: &mut [u32],
-        deleters: &mut [u32],
-        action: Action,
-    ) -> Acted
-        ensures { left (lent_memory addresses.new links.new deleters.new result.sizes) result ≡
-            does (lent_memory addresses.old links.old deleters.old self.sizes) self.process self.before action }
+    pub(crate) fn does(self, tables: &mut Tables, action: Action) -> Acted
+        ensures same { SameTables tables.old tables.new }
+        ensures left { left (memory_of tables.new result.sizes) result ≡
+            does (memory_of tables.old self.sizes) self.process self.before action }
     {
         match action {
-            Action::Insert(address) => self.insert(addresses, links, deleters, address),
+            Action::Insert(address) => self.insert(tables, address),
             Action::Delete(address) => accepted(
                 self.sizes,
                 self.before.request(0, DELETES, address, NO_NODE),
@@ -102,7 +86,7 @@ impl Actor {
                 self.sizes,
                 self.before.request(11, FINDS, address, NO_NODE),
             ),
-            Action::Step => self.step(addresses, links, deleters),
+            Action::Step => self.step(tables),
             Action::Stop => accepted(self.sizes, self.before.goes_down()),
             Action::Restart => accepted(self.sizes, self.before.restarts()),
         }

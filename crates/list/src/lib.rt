@@ -61,5 +61,5 @@ pub fn act(
         process,
         before: record,
     };
-    actor.does(addresses, links, deleters, action)
+    actor.does(tables, action)
 }

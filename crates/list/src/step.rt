@@ -2,22 +2,27 @@
 ghost use Rattle.std.specs.Prelude.{◌≡◌, true};
 ghost use Rattle.table.specs.Steps.{in_range};
 ghost use Rattle.table.specs.Events.{step};
-ghost use Rattle.words.specs.LentMemory.{lent_memory};
+ghost use Rattle.words.specs.LentMemory.{memory_of, SameTables};
 ghost use Rattle.list.specs.Acting.{left};
 
 use crate::Acted;
 use crate::actor::Actor;
 use crate::answers::refused;
 use record::Refusal;
+use words::Tables;
 
 impl Actor {
     // The row of a record whose fields are in their ranges. The places of inserts and deletes, 0 to 10, stand under one range: no arm is then so deep
     // that the compiler takes it for rare and leaves its row a call, for which it would hold every record in memory.
-    fn row(self, addresses: &[u32], links: &mut [u32], deleters: &mut [u32]) -> Acted
+    fn row(self, tables: &mut Tables) -> Acted
         requires { in_range self.before ≡ true }
-        ensures { left (lent_memory addresses.now links.new deleters.new self.sizes) result ≡
-            step (lent_memory addresses.now links.old deleters.old self.sizes) self.process self.before }
+        ensures same { SameTables tables.old tables.new }
+        ensures left { left (memory_of tables.new self.sizes) result ≡
+            step (memory_of tables.old self.sizes) self.process self.before }
     {
+        let addresses = &mut *tables.addresses;
+        let links = &mut *tables.links;
+        let deleters = &mut *tables.deleters;
         let place = self.before.lost.place;
         match place {
             0..=10 => match place {
@@ -60,13 +65,14 @@ impl Actor {
 
     // One step of a running process: its row, or refusal 8 for a record out of its ranges.
     #[tactic(auto, using(crate::proofs::Turns::unranged))]
-    pub(crate) fn step(self, addresses: &[u32], links: &mut [u32], deleters: &mut [u32]) -> Acted
-        ensures { left (lent_memory addresses.now links.new deleters.new self.sizes) result ≡
-            step (lent_memory addresses.now links.old deleters.old self.sizes) self.process self.before }
+    pub(crate) fn step(self, tables: &mut Tables) -> Acted
+        ensures same { SameTables tables.old tables.new }
+        ensures left { left (memory_of tables.new self.sizes) result ≡
+            step (memory_of tables.old self.sizes) self.process self.before }
     {
         if !words::in_range(self.before) {
             return refused(self.sizes, self.before, Refusal::Broken);
         }
-        self.row(addresses, links, deleters)
+        self.row(tables)
     }
 }

@@ -26,11 +26,6 @@ module _ {file out : List ℕ} (m : Memory) {begins start : World} {run : Run} {
   on : FilledTo file begins w
   on = subst (λ (s : World). FilledTo file s w) begin reached
 
-  -- a block that could not be written
-  pub stopped : {room : ℕ} → Printed file begins room m out false
-  stopped =
-      record { before = w; reached = on; given = block; run = run; count = count; last = filled; whole = λ e. absurd (false≢true e) }
-
   -- a block that got nothing
   pub ended : {room : ℕ} → Numbered file w → count ≡ 0 → length block ≡ room → Printed file begins room m out true
   ended numbered none same =
@@ -50,11 +45,6 @@ module _ {file out : List ℕ} (m : Memory) {begins start : World} {run : Run} {
             (λ (nothing : to_come file w ≡ []). omega (arith, falls_by file w numbered block, ap length nothing))
             (gets_on file w numbered block (omega arith));
       }
-
--- the answer that was told, as it is known
-pub told : {file block : List ℕ} {start : World} {room : ℕ} {m : Memory} {all known : Bool} → 64 ≤ room → all ≡ known
-    → Printed file start room m block all → (64 ≤ room) × Printed file start room m block known
-told {file} {block} {start} {room} {m} long is printed = (long, subst (λ (b : Bool). Printed file start room m block b) is printed)
 
 -- ---- what the writer took
 

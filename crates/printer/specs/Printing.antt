@@ -1,6 +1,6 @@
 -- What printing a run leaves of the lent tables and of the lent block, and what the writer took of its output. Rests on the run and on what is to come
 -- of its output.
-use Rattle.std.specs.Prelude.{◌≡◌, Bool, true, false, List, Option, ℕ, ◌≤◌, ◌<◌, length}
+use Rattle.std.specs.Prelude.{◌≡◌, Bool, true, false, List, Option, Result, Ok, Err, ℕ, ◌≤◌, ◌<◌, length}
 use Rattle.std.specs.Io.KnownBytes.{Keeps}
 use Rattle.table.specs.Words.{Memory}
 use Rattle.run.specs.declared.Run.{Run}
@@ -8,8 +8,8 @@ use Rattle.run.specs.Filling.{stop}
 use Rattle.run.specs.Pieces.{World, world, fills, begins}
 use Rattle.blocks.specs.ToCome.{to_come}
 use Rattle.streams.specs.Written.{Written}
-use Rattle.printer.specs.declared.Printout.{Printout}
-use Rattle.printer.specs.declared.Printout.TheVariants.{Whole, Cut, TooShort}
+use Rattle.printer.specs.declared.PrintError.{PrintError}
+use Rattle.printer.specs.declared.PrintError.TheVariants.{CutOff, TooShort}
 
 -- a run that another comes to by filling blocks
 pub data FilledTo (file : List ℕ) (start : World) : World → Type 0 where
@@ -28,13 +28,13 @@ pub record Printed (file : List ℕ) (start : World) (room : ℕ) (m : Memory) (
   pub whole : all ≡ true → 64 ≤ room → length (to_come file (world m run)) ≡ 0
 
 -- what each answer says: of the memory and the block that were lent, and of what is left of them
-abbrev pub PrintedAs : (file : List ℕ) (m : Memory) (block : List ℕ) (left : Memory) (last : List ℕ) → Printout → Type 0
-PrintedAs file m block left last Whole = (64 ≤ length block) × Printed file (begins file m) (length block) left last true
-PrintedAs file m block left last Cut = (64 ≤ length block) × Printed file (begins file m) (length block) left last false
-PrintedAs file m block left last TooShort = (length block < 64) × (left ≡ m) × (last ≡ block)
+abbrev pub PrintedAs : (file : List ℕ) (m : Memory) (block : List ℕ) (left : Memory) (last : List ℕ) → Result (Unit {0}) PrintError → Type 0
+PrintedAs file m block left last (Ok _) = (64 ≤ length block) × Printed file (begins file m) (length block) left last true
+PrintedAs file m block left last (Err CutOff) = (64 ≤ length block) × Printed file (begins file m) (length block) left last false
+PrintedAs file m block left last (Err TooShort) = (length block < 64) × (left ≡ m) × (last ≡ block)
 
 -- what each answer says of what the writer took: all of the output, as much as it took from the front, nothing
-abbrev pub WrittenAs : (before after : Option (List ℕ)) (output : List ℕ) → Printout → Type 0
-WrittenAs before after output Whole = Written before after output true
-WrittenAs before after output Cut = Written before after output false
-WrittenAs before after output TooShort = Keeps before after
+abbrev pub WrittenAs : (before after : Option (List ℕ)) (output : List ℕ) → Result (Unit {0}) PrintError → Type 0
+WrittenAs before after output (Ok _) = Written before after output true
+WrittenAs before after output (Err CutOff) = Written before after output false
+WrittenAs before after output (Err TooShort) = Keeps before after

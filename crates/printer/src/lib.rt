@@ -1,8 +1,8 @@
 // Prints a run: the blocks of its output, one after the other, to a writer. Rests on the run.
 #![tactic(auto)]
 
-ghost use Rattle.std.specs.Prelude.{◌≤◌, length};
-ghost use Rattle.words.specs.LentMemory.{lent_memory};
+ghost use Rattle.std.specs.Prelude.{◌≤◌, is_ok, length};
+ghost use Rattle.words.specs.LentMemory.{memory_of, SameTables};
 ghost use Rattle.run.specs.Pieces.{unstated, begins};
 ghost use Rattle.blocks.specs.ToCome.{to_come};
 ghost use Rattle.streams.specs.Written.{Written};
@@ -10,44 +10,51 @@ ghost use Rattle.printer.specs.Printing.{Printed, PrintedAs, WrittenAs};
 
 use run::{begin, fill};
 use std::io::Write;
+use streams::WriteFailed;
+use words::Tables;
 
-// What printing comes to: all was written; the writer took no more; or the block is too short for any piece of it, and nothing was touched.
-#[derive(Clone, Copy)]
-pub enum Printout {
-    Whole,
-    Cut,
+// Why not all was written: the writer took no more; or the block is too short for any piece of the output, and nothing was touched.
+#[derive(Clone, Copy, Debug, PartialEq, Eq)]
+pub enum PrintError {
+    CutOff,
     TooShort,
 }
 
-// Block after block, until nothing is left to come or the writer takes no more. Answers whether all was written.
+impl From<WriteFailed> for PrintError {
+    ghost use Rattle.std.specs.Prelude.{◌≡◌};
+    ghost use Rattle.printer.specs.declared.PrintError.TheVariants.{CutOff};
+
+    ghost from_gives = { λ _ error. error ≡ CutOff };
+
+    fn from(_failed: WriteFailed) -> PrintError {
+        PrintError::CutOff
+    }
+}
+
+// Block after block, until nothing is left to come or the writer takes no more.
 fn print_blocks<W: Write>(
     to: &mut W,
     file: &[u8],
-    addresses: &mut [u32],
-    links: &mut [u32],
-    deleters: &mut [u32],
+    tables: &mut Tables,
     block: &mut [u8],
-) -> bool
+) -> Result<(), WriteFailed>
+    ensures same { SameTables tables.old tables.new }
     ensures printed { Printed file.now
-        (begins file.now (lent_memory addresses.old links.old deleters.old unstated))
-        (length block.old) (lent_memory addresses.new links.new deleters.new unstated)
-        block.new result }
+        (begins file.now (memory_of tables.old unstated))
+        (length block.old) (memory_of tables.new unstated)
+        block.new (is_ok result) }
     ensures written { 64 ≤ length block.old → Written (W.contents to.old) (W.contents to.new)
-        (to_come file.now (begins file.now (lent_memory addresses.old links.old deleters.old unstated)))
-        result }
+        (to_come file.now (begins file.now (memory_of tables.old unstated)))
+        (is_ok result) }
 {
-    let mut run = begin(file, addresses, links, deleters);
+    let mut run = begin(file, tables);
     loop {
-        let filled = fill(file, addresses, links, deleters, block, run);
-        let count = filled.count;
-        if count == 0 {
-            return true;
+        let filled = fill(file, tables, block, run);
+        if filled.count == 0 {
+            return Ok(());
         }
-        let on = filled.run;
-        run = on;
-        if !streams::write_all(to, &block[..count]) {
-            return false;
-        }
+        run = filled.run;
+        streams::write_all(to, &block[..filled.count])?;
     }
 }
 
@@ -55,23 +62,20 @@ fn print_blocks<W: Write>(
 pub fn print_output<W: Write>(
     to: &mut W,
     file: &[u8],
-    addresses: &mut [u32],
-    links: &mut [u32],
-    deleters: &mut [u32],
+    tables: &mut Tables,
     block: &mut [u8],
-) -> Printout
+) -> Result<(), PrintError>
+    ensures same { SameTables tables.old tables.new }
     ensures printed { PrintedAs file.now
-        (lent_memory addresses.old links.old deleters.old unstated) block.old
-        (lent_memory addresses.new links.new deleters.new unstated) block.new result }
+        (memory_of tables.old unstated) block.old
+        (memory_of tables.new unstated) block.new result }
     ensures written { WrittenAs (W.contents to.old) (W.contents to.new)
-        (to_come file.now (begins file.now (lent_memory addresses.old links.old deleters.old unstated)))
+        (to_come file.now (begins file.now (memory_of tables.old unstated)))
         result }
 {
     if block.len() < 64 {
-        return Printout::TooShort;
+        return Err(PrintError::TooShort);
     }
-    if print_blocks(to, file, addresses, links, deleters, block) {
-        return Printout::Whole;
-    }
-    Printout::Cut
+    print_blocks(to, file, tables, block)?;
+    Ok(())
 }

@@ -1,17 +1,11 @@
 -- Where writing stands: so many bytes were taken from the front. It goes on by what the next write takes, and ends where a write takes none or fails.
 -- Rests on std's words for what a writer holds.
-use Rattle.std.proofs.Common.{◌≡◌, ℕ, ◌+◌, ◌-◌, false, List, ◌++◌, length, take, drop, None, Some, Option, sym, ap, ◌∙◌, subst, arith, length-drop, take-append-drop}
+use Rattle.std.proofs.Common.{◌≡◌, ℕ, ◌+◌, ◌-◌, false, List, ◌++◌, length, take, drop, Option, sym, ap, ◌∙◌, subst, arith, length-drop, take-append-drop}
 use Rattle.std.proofs.Math.Seq.{take-add, take_all}
-use Rattle.std.proofs.KnownBytes.{Appends-trans}
+use Rattle.std.proofs.KnownBytes.{Appends-kept, Appends-trans}
 use Rattle.std.proofs.lemmas.Bool.{false≢true}
 use Rattle.std.specs.Io.KnownBytes.{Appends, Keeps}
 use Rattle.streams.specs.Written.{Written}
-
-appends_kept : (a b c : Option (List ℕ)) (bytes : List ℕ) → Appends a b bytes → Keeps b c → Appends a c bytes
-appends_kept None b c bytes p q = tt
-appends_kept (Some x) None c bytes p q = absurd p
-appends_kept (Some x) (Some y) None bytes p q = absurd q
-appends_kept (Some x) (Some y) (Some z) bytes p q = q ∙ p
 
 module _ (a b c : Option (List ℕ)) (bytes : List ℕ) (taken : ℕ) (before : Appends a b (take taken bytes)) where
   -- the bytes that a write is given
@@ -24,22 +18,20 @@ module _ (a b c : Option (List ℕ)) (bytes : List ℕ) (taken : ℕ) (before : 
       let joined : take taken bytes ++ take next rest ≡ take (taken + next) bytes = ap (λ l. take taken bytes ++ take next l) whole ∙ sym (take-add taken next bytes) in
       subst (Appends a c) joined (Appends-trans a b c (take taken bytes) (take next rest) before more)
 
-  -- the next write took none
-  pub stopped : (next : ℕ) → next ≡ 0 → Appends b c (take next rest) → Written a c bytes false
-  stopped next none more = record {
-    taken = take (taken + next) bytes;
-    left = drop (taken + next) bytes;
-    parts = take-append-drop (taken + next) bytes;
-    grows = taken_on next more;
+  -- so many were taken in all, and none after them
+  ended_at : (n : ℕ) → Appends a c (take n bytes) → Written a c bytes false
+  ended_at n grows = record {
+    taken = take n bytes;
+    left = drop n bytes;
+    parts = take-append-drop n bytes;
+    grows = grows;
     whole = λ e. absurd (false≢true e);
   }
 
+  -- the next write took so many, and none is written after it
+  pub stopped : (next : ℕ) → Appends b c (take next rest) → Written a c bytes false
+  stopped next more = ended_at (taken + next) (taken_on next more)
+
   -- it failed
   pub failed : Keeps b c → Written a c bytes false
-  failed kept = record {
-    taken = take taken bytes;
-    left = drop taken bytes;
-    parts = take-append-drop taken bytes;
-    grows = appends_kept a b c (take taken bytes) before kept;
-    whole = λ e. absurd (false≢true e);
-  }
+  failed kept = ended_at taken (Appends-kept a b c (take taken bytes) before kept)

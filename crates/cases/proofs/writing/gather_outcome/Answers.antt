@@ -1,7 +1,0 @@
--- The piece is put whole. Rests on Pieces.
-use Rattle.std.proofs.Common.{arith}
-use Rattle.cases.proofs.Pieces.{put_whole}
-use Rattle.cases.proofs.writing.gather_outcome.Goals as goal
-
-pub returns-clause-value : goal.returns-clause-value
-returns-clause-value c = put_whole _ c.args.block.now _ c.args.used _ c.put_outcome.ensures.result_after (omega arith)
