@@ -31,7 +31,7 @@ impl From<Acted> for Said {
     }
 }
 
-// One event on a lent record, which is left advanced.
+// One event on a lent record, which is left advanced. A refused event changes nothing, so that nothing is stored for it.
 pub fn act_on(
     tables: &mut Tables,
     sizes: Sizes,
@@ -44,7 +44,9 @@ pub fn act_on(
         act (memory_of tables.old sizes) process «record».old action }
 {
     let acted = list::act(tables, sizes, process, *record, action);
-    *record = acted.advanced;
+    if !matches!(acted.outcome, Outcome::Refused(_)) {
+        *record = acted.advanced;
+    }
     Said::from(acted)
 }
 

@@ -29,8 +29,10 @@ pub struct Acted {
     pub outcome: Outcome,
 }
 
-// One event on the lent tables and one record, that of its process: refusals 7, 1, 2, 3, 8 in this order.
+// One event on the lent tables and one record, that of its process: refusals 7, 1, 2, 3, 8 in this order. It is taken into its callers' code: with
+// a call for each event a run takes more than half as many instructions again.
 #[tactic(auto, unfolding(table::specs::Events::act, table::specs::Events::refusal_in))]
+#[inline(always)]
 pub fn act(
     tables: &mut Tables,
     sizes: Sizes,

@@ -1,35 +1,25 @@
 -- What comes next in a run, by what its reader, its list and its walk gave. Rests on Pieces, on the table's law of an event in a row (Meets) and on
 -- what the walk was told (the chain's Walks).
-use Prim.Native.Nat.{ℕ, suc, ◌-◌, ◌<◌, ◌≤◌}
+use Prim.Native.Nat.{ℕ, suc, ◌-◌, ◌≤◌}
 use mathlib.Core.List.{List, [], ◌∷◌}
-use mathlib.Core.Bool.{Bool, true, false, false≢true}
+use mathlib.Core.Bool.{true, false, false≢true}
 use mathlib.Core.Path.{◌≡◌, refl, ap, sym, ◌∙◌}
 use native.Mathlib.Omega.{arith}
-use borrow.Author.Tests.{lt-ltb, ltb-true, ltb-false}
-use lib.ListN.{length, length-append, get_or, set}
-use lib.Seq.{set-get_or}
+use borrow.Author.Tests.{ltb-true, ltb-false}
+use lib.ListN.{length, length-append}
 use Rattle.std.specs.Prelude.{Option, Some, None, Result, Ok, Err}
-use Rattle.record.specs.Record.{fresh_record, process}
 use Rattle.record.specs.declared.Refusal.{Refusal}
 use Rattle.record.specs.Refusal.{number_of}
-use Rattle.record.specs.Event.{is_accepted}
 use Rattle.record.specs.declared.Node.{Node}
 use Rattle.record.specs.declared.Address.{Address}
-use Rattle.record.specs.declared.Process.{Process}
 use Rattle.record.specs.declared.Event.{Event}
-use Rattle.record.specs.declared.Action.{Action}
 use Rattle.record.specs.declared.Record.{Record}
 use Rattle.record.specs.declared.Outcome.{Outcome}
 use Rattle.record.specs.declared.Outcome.TheVariants as outcome
 use Rattle.table.specs.Words.{Memory}
-use Rattle.table.specs.Events.{State, Left, leaving, act, event, stored, record_in, Leaves}
-use Rattle.table.proofs.Laws.Events.{refused_act_changes_nothing}
-use Rattle.table.proofs.Laws.Fitting.{limits}
-use Rattle.table.proofs.Laws.Meets.{event_by_slot}
+use Rattle.table.specs.Events.{state_of, leaves_in, event}
 use Rattle.words.specs.LentMemory.{sized}
-use Rattle.words.specs.LentWords.{slot_of}
-use Rattle.list.specs.Acting.{left}
-use Rattle.list.specs.declared.Acted.{Acted}
+use Rattle.words.specs.declared.Sizes.{Sizes}
 use Rattle.schedule.specs.declared.Cursor.{Cursor}
 use Rattle.schedule.specs.EventRead.{EventRead, event_told}
 use Rattle.schedule.specs.EventRead as read
@@ -55,23 +45,6 @@ use Rattle.run.specs.Pieces.{event_next, put_ahead, address_next, next_piece, fi
 use Rattle.run.specs.PrivatePromises.{Ready, HasPiece, stops_at, PutsNext, stopped_text, last_text}
 use Rattle.run.proofs.Fills.{FillsTo, full, at_end}
 
--- ---- the record of an event's process, in a row of 64
-
--- a process that is there has its own record, where the sizes fit
-own_slot : (processes : ℕ) (p : Process) → processes ≤ 64 → p.0 < processes → process (slot_of processes p.0) ≡ p
-unfolding slot_of
-own_slot processes p few there = rw (lt-ltb p.0 processes there, lt-ltb p.0 64 (omega arith))
-
-module _ (σ : State) (row : length σ.row ≡ 64) (e : Event) where
-  -- what an event leaves, worked on the record at a place
-  abbrev worked_at : ℕ → Leaves
-  worked_at at = stored σ (process at) (act σ.memory e.process (record_in σ (process at)) e.action)
-
-  event_at_lem : (at : ℕ) → at ≡ slot_of σ.memory.processes e.process.0 → event σ e ≡ worked_at at
-  event_at_lem at is =
-      event_by_slot σ e (process at) (omega arith)
-      (λ fit there. ap process is ∙ own_slot σ.memory.processes e.process (limits σ.memory fit).few_processes there)
-
 -- ---- the pieces
 
 pub acting_piece : (file : List ℕ) (w : World) → w.run.phase ≡ Acting → next_piece file w ≡ event_next file w
@@ -83,44 +56,15 @@ pub got_piece : (file : List ℕ) (w : World) (e : Event) (next : Cursor) → ev
 unfolding event_next
 got_piece file w e next h = rw (h, event_next)
 
--- only an accepted event is stored: a refused one leaves the record as it was
-module _ (m : Memory) (p : Process) (x : Action) (row : List Record) (at : ℕ) (m' : Memory) (a : Acted)
-    (is : left m' a ≡ act m p (get_or row at fresh_record) x) where
-  as_it_was : (o : Outcome) → a.outcome ≡ o → is_accepted o ≡ false → set row at a.advanced ≡ row
-  as_it_was (outcome.Refused n) told h =
-      let changed : left m' a ≡ leaving m (get_or row at fresh_record) (outcome.Refused n) =
-      is ∙ refused_act_changes_nothing m p (get_or row at fresh_record) x n (ap (λ (l : Left). l.outcome) (sym is) ∙ told) in
-      ap (λ (r : Record). set row at r) (ap (λ (l : Left). l.advanced) changed) ∙ set-get_or row at fresh_record
-  as_it_was outcome.Accepted told h = absurd (false≢true (sym h))
-  as_it_was (outcome.Answered n) told h = absurd (false≢true (sym h))
-
-  pub unstored : (accepted : Bool) → accepted ≡ is_accepted a.outcome → accepted ≡ false → row ≡ set row at a.advanced
-  unstored accepted told refused = sym (as_it_was a.outcome refl (sym told ∙ refused))
-
 -- the world after an event, as the code leaves it, and its line
-module _ (m : Memory) (run : Run) (acting : run.phase ≡ Acting) (row : length run.row ≡ 64) (e : Event) (next : Cursor) (at number : ℕ)
-    (m' : Memory) (x : Acted) (row' : List Record) (slot : at ≡ slot_of run.sizes.processes e.process.0) (following : number ≡ next_number run.number)
-    (is : left m' x ≡ act (sized run.sizes m) e.process (get_or run.row at fresh_record) e.action)
-    (stores : row' ≡ set run.row at x.advanced) where
-  abbrev w : World
-  w = world m run
+pub acted_piece : (file : List ℕ) (m : Memory) (run : Run) (e : Event) (next : Cursor) (m' : Memory) (sizes : Sizes) (row : List Record)
+    (o : Outcome) (number : ℕ) → run.phase ≡ Acting → event_at file run.cursor ≡ read.Got e next
+    → leaves_in (state_of (sized sizes m') row) o ≡ event (table_of (world m run)) e → number ≡ next_number run.number
+    → next_piece file (world m run) ≡ piece (line run.number o) (world m' (run_of run.phase next sizes number row))
+acted_piece file m run e next m' sizes row o number acting got is following =
+    acting_piece file (world m run) acting ∙ got_piece file (world m run) e next got ∙ rw (following, ← is)
 
-  abbrev after : World
-  after = world m' (run_of run.phase next x.sizes number row')
-
-  goes_on : piece (line run.number (worked_at (table_of w) row e at).outcome) (went_on w next (worked_at (table_of w) row e at).after)
-      ≡ piece (line run.number x.outcome) after
-  unfolding stored record_in
-  goes_on = rw (following, stores, ← is)
-
-  pub acted_piece : (file : List ℕ) → event_at file run.cursor ≡ read.Got e next
-      → next_piece file w ≡ piece (line run.number x.outcome) after
-  acted_piece file h =
-      acting_piece file w acting
-      ∙ got_piece file w e next h
-      ∙ ap (λ (y : Leaves). piece (line run.number y.outcome) (went_on w next y.after)) (event_at_lem (table_of w) row e at slot)
-      ∙ goes_on
-
+-- what follows the last event
 pub end_next : (file : List ℕ) (w : World) → event_at file w.run.cursor ≡ read.End → event_next file w ≡ piece keys_word (to_walk w)
 unfolding event_next
 end_next file w h = rw (h, event_next)
@@ -130,7 +74,6 @@ pub refused_next : (file : List ℕ) (w : World) (n : ℕ) → event_at file w.r
 unfolding event_next stopped_text
 refused_next file w n h = rw (h, event_next)
 
--- what follows the last event
 abbrev pub Answer : Type 0
 Answer = Result (Option (Event × Cursor)) Refusal
 

@@ -1,6 +1,5 @@
 // Lines: each event read, acted on and told; then what follows the last event.
 ghost use Rattle.std.specs.Prelude.{◌≡◌, ◌≤◌, ◌-◌, length};
-ghost use Rattle.record.specs.Event.{is_accepted};
 ghost use Rattle.words.specs.LentMemory.{memory_of, SameTables};
 ghost use Rattle.schedule.specs.EventRead.{event_told};
 ghost use Rattle.text.specs.Put.{put, puts};
@@ -9,18 +8,11 @@ ghost use Rattle.run.specs.Pieces.{world, next_number};
 ghost use Rattle.run.specs.PrivatePromises.{LeftOff, Ready, stopped_text, last_text};
 
 use crate::{Filled, Phase, Run};
-use list::act;
-use record::{Event, HEAD, Outcome, Refusal};
+use lent::act_in;
+use record::{Event, HEAD, Refusal};
 use schedule::{Cursor, read_event};
 use text::{put_keys, put_line, put_refusal};
-use words::{Tables, slot};
-
-// Whether an event was accepted. A refused one changes nothing, so that nothing is stored for it.
-fn accepted(outcome: Outcome) -> bool
-    ensures { result ≡ is_accepted outcome }
-{
-    !matches!(outcome, Outcome::Refused(_))
-}
+use words::Tables;
 
 // The number of the next line.
 #[tactic(auto, unfolding(crate::specs::Pieces::next_number))]
@@ -75,14 +67,10 @@ pub(crate) fn fill_lines(file: &[u8], tables: &mut Tables, block: &mut [u8], mut
             let run = run.in_phase(Phase::Walking(HEAD));
             return Filled { count: at + m, run };
         };
-        let p = slot(event.process, run.sizes.processes);
-        let acted = act(tables, run.sizes, event.process, run.row[p], event.action);
+        let said = act_in(tables, run.sizes, &mut run.row, event);
         run.cursor = next;
-        run.sizes = acted.sizes;
-        if accepted(acted.outcome) {
-            run.row[p] = acted.advanced;
-        }
-        at += put_line(&mut block[at..], run.number, acted.outcome);
+        run.sizes = said.sizes;
+        at += put_line(&mut block[at..], run.number, said.outcome);
         run.number = number_after(run.number);
     }
 }

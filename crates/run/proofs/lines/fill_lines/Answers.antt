@@ -1,19 +1,16 @@
 -- A line put goes on, and what follows the last event ends the lines. Rests on Fills and Steps.
-use Rattle.std.proofs.Common.{List, ◌≡◌, ◌∙◌, ap, refl, sym, arith, rules}
+use Rattle.std.proofs.Common.{◌≡◌, ◌∙◌, ap, refl, sym, arith, rules}
 use Rattle.std.specs.Prelude.{Ok, Some}
-use Rattle.std.proofs.Math.ListN.{set, length-set}
-use Rattle.record.specs.declared.Record.{Record}
 use Rattle.words.specs.LentMemory.{memory_of}
 use Rattle.schedule.specs.EventRead.{event_told}
 use Rattle.text.specs.Text.{line}
 use Rattle.text.proofs.Lengths.{line_some}
-use Rattle.run.specs.declared.Run.{Run}
-use Rattle.run.specs.Pieces.{world, run_of, next_piece}
+use Rattle.run.specs.Pieces.{world, next_piece}
 use Rattle.run.specs.PrivatePromises.{last_text}
 use Rattle.run.proofs.Fills.{grows, grows_into, onward}
-use Rattle.run.proofs.Steps.{from_start, unstored, acted_piece, NotGot, last_piece, last_some}
+use Rattle.run.proofs.Steps.{from_start, acted_piece, NotGot, last_piece, last_some}
 use Rattle.run.proofs.lines.fill_lines.Goals as goal
-use Rattle.run.proofs.lines.fill_lines.Goals.{then-accepted, else-accepted, in_default-via-in-Ok+in_default, in_default-via-in_default}
+use Rattle.run.proofs.lines.fill_lines.Goals.{in_default-via-in-Ok+in_default, in_default-via-in_default}
 
 pub loop-block-init : goal.loop-block-init
 loop-block-init c = record {
@@ -21,7 +18,6 @@ loop-block-init c = record {
   block_is = refl;
   within = omega arith;
   acting = c.requires;
-  row_is = search rules;
   reached = from_start _ _ _;
 }
 
@@ -44,34 +40,25 @@ returns-in_default c =
 pub loop-block-smaller : goal.loop-block-smaller
 loop-block-smaller c =
     let l = c.loop-block in
-    let o = c.act-acted.result.outcome in
+    let o = c.act_in-said.result.outcome in
     let p = c.put_line-at in
-    (grows_into (line c.if-accepted.run.number o) l.block p.new.part l.at p.result l.invariant.within (line_some c.if-accepted.run.number o) p.auto.part
+    (grows_into (line l.run.number o) l.block p.new.part l.at p.result l.invariant.within (line_some l.run.number o) p.auto.part
     c.if-block-at-lt64.false p.ensures.result_after).less
 
 pub loop-block-preserved : goal.loop-block-preserved
 loop-block-preserved c =
     let l = c.loop-block in
     let file = c.args.file.now in
-    let x = c.act-acted in
+    let x = c.act_in-said in
     let o = x.result.outcome in
     let p = c.put_line-at in
-    let at = c.slot-p.result in
     let m = memory_of l.tables l.run.sizes in
-    let m' = memory_of x.new.tables x.result.sizes in
     let read : c.read_event-read.result ≡ Ok (Some (c.in-Ok-Some.event, c.in-Ok-Some.next)) = search rules in
-    let after : List Record → Run = λ row. run_of l.run.phase c.in-Ok-Some.next x.result.sizes l.run.number row in
-    let row = set l.run.row at x.result.advanced in
-    let run_is : c.if-accepted.run ≡ after row =
-    elim c.if-accepted.branch [
-      | then-accepted w ↦ w.run-is
-      | else-accepted w ↦ w.run-is ∙ ap after (unstored m _ _ l.run.row at m' x.result x.ensures.left c.accepted.result c.accepted.ensures w.if-accepted.false)
-    ] in
-    let step = acted_piece m l.run l.invariant.acting l.invariant.row_is c.in-Ok-Some.event c.in-Ok-Some.next at c.number_after.result m' x.result
-    row c.slot-p.ensures.value (rw run_is at c.number_after.ensures) x.ensures.left refl file (sym c.read_event-read.ensures ∙ ap event_told read) in
+    let step = acted_piece file m l.run c.in-Ok-Some.event c.in-Ok-Some.next (memory_of x.new.tables x.result.sizes) x.result.sizes x.new.row o
+    c.number_after.result l.invariant.acting (sym c.read_event-read.ensures ∙ ap event_told read) x.ensures.left c.number_after.ensures in
     let g = grows_into (line l.run.number o) l.block p.new.part l.at p.result l.invariant.within (line_some l.run.number o) p.auto.part
-    c.if-block-at-lt64.false (rw run_is at p.ensures.result_after) in
-    rw run_is (record {
+    c.if-block-at-lt64.false p.ensures.result_after in
+    record {
       tables = record {
         addresses = x.ensures.same.addresses ∙ l.invariant.tables.addresses;
         links = x.ensures.same.links ∙ l.invariant.tables.links;
@@ -80,6 +67,5 @@ loop-block-preserved c =
       block_is = g.same_length ∙ l.invariant.block_is;
       within = g.within;
       acting = l.invariant.acting;
-      row_is = simp length-set l.invariant.row_is;
       reached = onward (next_piece file) (world m l.run) l.block l.at l.invariant.reached c.if-block-at-lt64.false step g;
-    })
+    }

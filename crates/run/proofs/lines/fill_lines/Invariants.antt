@@ -8,17 +8,16 @@ use Rattle.run.proofs.Fills.{FillsTo}
 use Rattle.run.proofs.lines.fill_lines.Given as goal
 
 -- what the loop keeps
-pub record LoopKeeps (T : Type 0) (block block₀ at row : ℕ) (phase : Phase) (R : Type 0) : Type 0 where
+pub record LoopKeeps (T : Type 0) (block block₀ at : ℕ) (phase : Phase) (R : Type 0) : Type 0 where
   pub tables : T
   pub block_is : block ≡ block₀
   pub within : at ≤ block
   pub acting : phase ≡ Acting
-  pub row_is : row ≡ 64
   pub reached : R
 
 abbrev pub invariant-loop-block : goal.invariant-loop-block
 invariant-loop-block l =
-    LoopKeeps (SameTables l.fn.tables l.tables) (length l.block) (length l.fn.block) l.at (length l.run.row) l.run.phase
+    LoopKeeps (SameTables l.fn.tables l.tables) (length l.block) (length l.fn.block) l.at l.run.phase
     (FillsTo (next_piece l.file) (world (memory_of l.tables l.run.sizes) l.run) l.block l.at
     (fills l.file (world (memory_of l.fn.tables l.fn.run.sizes) l.fn.run) l.fn.block))
 
