@@ -77,7 +77,7 @@ fn pairs(n: u32) -> u64
     requires { n < 100000000 }
     ensures { result ≡ pairs_of n }
 {
-    let fours = (n / 10000) as u64 + (n % 10000) as u64 * 4294967296;
+    let fours = u64::from(n / 10000) + u64::from(n % 10000) * 4294967296;
     let shares = fours * 10486 / 1048576;
     let hundreds = shares % 128 + shares / 4294967296 * 4294967296;
     fours * 65536 - hundreds * 6553599
