@@ -1,9 +1,9 @@
 // The accesses of the rows to the lent words, as the place table's `Access` has them: each tests the nodes that it uses, looks at its word only where
 // they are usable, and tells what it met; nothing where it is refused. Rests on the crate words.
-ghost use Rattle.std.specs.Prelude.{◌≡◌, cond, List, ℕ, Some, None};
-ghost use Rattle.table.specs.Words.{in_use, deleter_word};
+ghost use Rattle.std.specs.Prelude.{◌≡◌, cond, Some, None};
+ghost use Rattle.table.specs.Words.{Memory, links≔, deleters≔, in_use, deleter_word};
 ghost use Rattle.table.specs.Places.{unmarked};
-ghost use Rattle.words.specs.LentMemory.{lent_memory};
+ghost use Rattle.words.specs.LentMemory.{sized};
 ghost use Rattle.list.specs.Accesses.{field_named, link_named, usable_node, link_read, deleter_read, access_left};
 ghost use Rattle.list.specs.Accesses.{link_written, link_swap, deleter_swap};
 
@@ -31,7 +31,7 @@ impl Actor {
 
     // A node, if it is in use.
     fn used(self, links: &[u32], n: Node) -> Option<Node>
-        ensures { (addresses deleters : List ℕ) → result ≡ cond (in_use (lent_memory addresses links.now deleters self.sizes) n) (Some n) None }
+        ensures { (m : Memory) → result ≡ cond (in_use (sized self.sizes (links≔ links.now m)) n) (Some n) None }
     {
         words::in_use(links, self.sizes, n).then_some(n)
     }
@@ -39,7 +39,7 @@ impl Actor {
     // The node that a field names, if a row may use it: one in use, and for own one that is there.
     #[tactic(auto, unfolding(crate::specs::Accesses::usable_node))]
     pub(crate) fn usable(self, links: &[u32], field: Field) -> Option<Node>
-        ensures { (addresses deleters : List ℕ) → result ≡ usable_node (lent_memory addresses links.now deleters self.sizes) self.before (field_named field) }
+        ensures { (m : Memory) → result ≡ usable_node (sized self.sizes (links≔ links.now m)) self.before (field_named field) }
     {
         match field {
             Field::Head => Some(HEAD),
@@ -54,7 +54,7 @@ impl Actor {
     // Reads the link of a field's node.
     #[tactic(auto, unfolding(crate::specs::Accesses::link_read))]
     pub(crate) fn read_link(self, links: &[u32], field: Field) -> Option<LinkRead>
-        ensures { (addresses deleters : List ℕ) → result ≡ link_read (lent_memory addresses links.now deleters self.sizes) self.before (field_named field) }
+        ensures { (m : Memory) → result ≡ link_read (sized self.sizes (links≔ links.now m)) self.before (field_named field) }
     {
         let n = self.usable(links, field)?;
         words::link_met(links, self.sizes, n)
@@ -63,8 +63,8 @@ impl Actor {
     // Whether the deleter of a field's node is the process.
     #[tactic(auto, unfolding(crate::specs::Accesses::deleter_read, table::specs::Words::deleter_at))]
     pub(crate) fn read_deleter(self, links: &[u32], deleters: &[u32], field: Field) -> Option<bool>
-        ensures { (addresses : List ℕ) → result ≡
-            deleter_read (lent_memory addresses links.now deleters.now self.sizes) self.process self.before (field_named field) }
+        ensures { (m : Memory) → result ≡
+            deleter_read (sized self.sizes (links≔ links.now (deleters≔ deleters.now m))) self.process self.before (field_named field) }
     {
         let n = self.usable(links, field)?;
         Some(words::word_at(deleters, n) == self.deleter_word())
@@ -73,8 +73,8 @@ impl Actor {
     // Writes the link of a field's node: another field's node, unmarked.
     #[tactic(auto, unfolding(crate::specs::Accesses::link_written))]
     pub(crate) fn write_link(self, links: &mut [u32], at: Field, to: Field) -> Option<()>
-        ensures { (addresses deleters : List ℕ) → access_left links.new result ≡
-            link_written (lent_memory addresses links.old deleters self.sizes) self.before (field_named «at») (unmarked (field_named to)) }
+        ensures { (m : Memory) → access_left links.new result ≡
+            link_written (sized self.sizes (links≔ links.old m)) self.before (field_named «at») (unmarked (field_named to)) }
     {
         let n = self.usable(links, at)?;
         let target = self.usable(links, to)?;
@@ -92,8 +92,8 @@ impl Actor {
         to: Field,
         mark: bool,
     ) -> Option<Swapped>
-        ensures { (addresses deleters : List ℕ) → access_left links.new result ≡
-            link_swap (lent_memory addresses links.old deleters self.sizes) self.before
+        ensures { (m : Memory) → access_left links.new result ≡
+            link_swap (sized self.sizes (links≔ links.old m)) self.before
             (field_named «at») (unmarked (field_named from)) (link_named (field_named to) mark) }
     {
         let n = self.usable(links, at)?;
@@ -112,8 +112,8 @@ impl Actor {
         deleters: &mut [u32],
         field: Field,
     ) -> Option<Swapped>
-        ensures { (addresses : List ℕ) → access_left deleters.new result ≡
-            deleter_swap (lent_memory addresses links.now deleters.old self.sizes) self.process self.before (field_named field) }
+        ensures { (m : Memory) → access_left deleters.new result ≡
+            deleter_swap (sized self.sizes (links≔ links.now (deleters≔ deleters.old m))) self.process self.before (field_named field) }
     {
         let n = self.usable(links, field)?;
         Some(words::swap(deleters, n, 0, self.deleter_word()))

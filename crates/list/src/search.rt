@@ -1,8 +1,8 @@
 // Rows 0 to 2: search. Rests on accesses.
-ghost use Rattle.std.specs.Prelude.{◌≡◌, List, ℕ};
-ghost use Rattle.table.specs.Words.{addresses≔, links≔, equal};
+ghost use Rattle.std.specs.Prelude.{◌≡◌};
+ghost use Rattle.table.specs.Words.{Memory, addresses≔, links≔, equal};
 ghost use Rattle.table.specs.Places.{search_ends};
-ghost use Rattle.words.specs.LentMemory.{lent_memory};
+ghost use Rattle.words.specs.LentMemory.{sized};
 ghost use Rattle.list.specs.Rows.{followed, RowLeaves, RowTells};
 ghost use Rattle.record.specs.Record.{◌▸◌, succ≔};
 
@@ -23,8 +23,8 @@ impl Actor {
 
     // The end of a search, at the address or past it; succ is the target.
     fn search_ends(self, links: &[u32], target: Node, same: bool) -> Option<Record>
-        ensures { (addresses deleters : List ℕ) → same ≡ equal addresses self.before.lost.curr self.before.kept.address →
-            result ≡ followed (lent_memory addresses links.now deleters self.sizes) self.before (search_ends addresses (self.before ▸ succ≔ target)) }
+        ensures { (m : Memory) → same ≡ equal m.addresses self.before.lost.curr self.before.kept.address →
+            result ≡ followed (sized self.sizes (links≔ links.now m)) self.before (search_ends m.addresses (self.before ▸ succ≔ target)) }
     {
         if self.before.lost.recovering {
             self.usable(links, Field::Own)?;

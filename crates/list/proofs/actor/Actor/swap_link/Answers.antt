@@ -4,4 +4,4 @@ use Rattle.list.proofs.Accessed.{link_swapped}
 use Rattle.list.proofs.actor.Actor.swap_link.Goals as goal
 
 pub returns : goal.returns
-returns c a d = search (rules, link_swapped, c.in_ok-n.ensures a d, c.in_ok-from.ensures a d, c.in_ok-to.ensures a d)
+returns c m = search (rules, link_swapped, c.in_ok-n.ensures m, c.in_ok-from.ensures m, c.in_ok-to.ensures m)

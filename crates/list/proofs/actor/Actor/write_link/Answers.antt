@@ -4,4 +4,4 @@ use Rattle.list.proofs.Accessed.{link_made}
 use Rattle.list.proofs.actor.Actor.write_link.Goals as goal
 
 pub returns : goal.returns
-returns c a d = search (rules, link_made, c.in_ok-n.ensures a d, c.in_ok-target.ensures a d)
+returns c m = search (rules, link_made, c.in_ok-n.ensures m, c.in_ok-target.ensures m)
