@@ -1,2 +1,3 @@
 pub mod Links
 pub mod Unique
+pub mod LentTables

@@ -2,6 +2,7 @@
 use Rattle.std.proofs.Common.{◌≡◌, ◌∙◌, ap, refl, sym, arith, rules}
 use Rattle.std.specs.Prelude.{Ok, Some}
 use Rattle.words.specs.LentMemory.{memory_of}
+use Rattle.words.proofs.LentTables.{same_still, same_later}
 use Rattle.schedule.specs.EventRead.{event_told}
 use Rattle.text.specs.Text.{line}
 use Rattle.text.proofs.Lengths.{line_some}
@@ -14,7 +15,7 @@ use Rattle.run.proofs.lines.fill_lines.Goals.{in_default-via-in-Ok+in_default, i
 
 pub loop-block-init : goal.loop-block-init
 loop-block-init c = record {
-  tables = record { addresses = refl; links = refl; deleters = refl };
+  tables = same_still _;
   block_is = refl;
   within = omega arith;
   acting = c.requires;
@@ -59,11 +60,7 @@ loop-block-preserved c =
     let g = grows_into (line l.run.number o) l.block p.new.part l.at p.result l.invariant.within (line_some l.run.number o) p.auto.part
     c.if-block-at-lt64.false p.ensures.result_after in
     record {
-      tables = record {
-        addresses = x.ensures.same.addresses ∙ l.invariant.tables.addresses;
-        links = x.ensures.same.links ∙ l.invariant.tables.links;
-        deleters = x.ensures.same.deleters ∙ l.invariant.tables.deleters;
-      };
+      tables = same_later _ _ _ l.invariant.tables x.ensures.same;
       block_is = g.same_length ∙ l.invariant.block_is;
       within = g.within;
       acting = l.invariant.acting;
