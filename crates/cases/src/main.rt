@@ -48,7 +48,7 @@ impl Trouble {
 }
 
 // Works an event on lent words and records.
-fn act_on(
+fn act_in_row(
     addresses: &mut [u32],
     links: &mut [u32],
     deleters: &mut [u32],
@@ -77,7 +77,7 @@ fn act(case: &mut Case) -> Said
     let deleters = &mut case.deleters;
     let row = &mut case.row;
     // `[0..n]`, since the check has no rule for `[..n]` of a field beside a ghost field
-    act_on(
+    act_in_row(
         &mut addresses.items[0..addresses.count],
         &mut links.items[0..links.count],
         &mut deleters.items[0..deleters.count],

@@ -1,64 +1,18 @@
--- What the code's tests tell of what lies ahead of a node, and how the walk goes on by what it was told. Rests on the table's laws of the walk.
+-- How the walk goes on by what it was told. Rests on the table's laws of the walk.
 use mathlib.Core.Path.{◌≡◌, refl, sym, ◌∙◌, ap, subst}
-use mathlib.Core.Bool.{Bool, true, false, cond}
-use mathlib.Core.List.{List, [], ◌∷◌}
+use mathlib.Core.List.{[], ◌∷◌}
 use Prim.Native.Nat.{ℕ}
 use native.Mathlib.Omega.{arith}
-use lib.Dec.{ltb, eqb}
-use lib.ListN.{get_or}
-use borrow.Author.Tests.{lt-ltb, le-ltb, eq-eqb, ne_eqb}
-use Rattle.record.specs.Record.{head_node, tail_node, address}
+use Rattle.record.specs.Record.{address}
 use Rattle.record.specs.declared.Node.{Node}
 use Rattle.record.specs.declared.Address.{Address}
-use Rattle.table.specs.Words.{Memory, addresses≔, links≔, address_at, link_at, target_of, in_use, rank}
+use Rattle.table.specs.Words.{Memory, address_at}
 use Rattle.table.specs.Chain as table
 use Rattle.table.specs.Chain.{onto, tail_ahead, not_in_use, not_above, ahead_of, ahead, nodes_after}
 use Rattle.table.proofs.Laws.Ahead.{walk_on, nodes_after_lem}
-use Rattle.words.specs.declared.Sizes.{Sizes}
-use Rattle.words.specs.LentMemory.{sized}
 use Rattle.chain.specs.declared.Ahead.{Ahead}
-use Rattle.chain.specs.declared.Ahead.TheVariants.{Next, Tail, NotInUse, NotAbove}
+use Rattle.chain.specs.declared.Ahead.TheVariants.{Next}
 use Rattle.chain.specs.Walking.{ahead_in, ahead_from}
-
--- ---- what the code's tests tell
-
-module _ (addresses : List ℕ) (m : Memory) (target : Node) (tail used above : Bool) where
-  abbrev Says : Ahead → Type 0
-  Says x = x ≡ ahead_in (addresses≔ addresses m) (ahead_of target tail used above)
-
-  pub says_tail : tail ≡ true → Says Tail
-  says_tail e = rw e
-
-  pub says_unused : tail ≡ false → used ≡ false → Says NotInUse
-  says_unused e f = rw (e, f)
-
-  pub says_not_above : tail ≡ false → used ≡ true → above ≡ false → Says NotAbove
-  says_not_above e f g = rw (e, f, g)
-
-  pub says_next : (word : ℕ) → word ≡ get_or addresses target.0 0 → tail ≡ false → used ≡ true → above ≡ true → Says (Next target (address word))
-  unfolding address_at
-  says_next word is e f g = rw (e, f, g, is)
-
-pub ruleset judged = (says_tail, says_unused, says_not_above, says_next, lt-ltb, le-ltb, eq-eqb, ne_eqb)
-
--- a target that is not in use may be asked where another node sorts
-said_of_used : (target other : Node) (tail used : Bool) (addresses : List ℕ) (at : ℕ) →
-    ahead_of target tail used (ltb at (rank addresses (cond used target other))) ≡ ahead_of target tail used (ltb at (rank addresses target))
-said_of_used target other true used addresses at = refl
-said_of_used target other false true addresses at = refl
-said_of_used target other false false addresses at = refl
-
--- the words that the code read are known by equations
-pub onward_told : (addresses links : List ℕ) (sizes : Sizes) (from target asked : Node) (word at to : ℕ) (used : Bool) (x : Ahead)
-    → ((m : Memory) → x ≡ ahead_in (addresses≔ addresses m) (ahead_of target (eqb target.0 tail_node.0) used (ltb at to)))
-    → target ≡ target_of word → word ≡ get_or links from.0 0
-    → ((m : Memory) → used ≡ in_use (sized sizes (links≔ links m)) target) → at ≡ rank addresses from
-    → to ≡ rank addresses asked → asked ≡ cond used target head_node
-    → (m : Memory) → x ≡ ahead_from (sized sizes (links≔ links (addresses≔ addresses m))) from
-unfolding ahead link_at
-onward_told addresses links sizes from target asked word at to used x told is e u h k a m =
-    told (sized sizes (links≔ links m))
-    ∙ rw (k, a, said_of_used target head_node (eqb target.0 tail_node.0) used addresses at, u (addresses≔ addresses m), h, is, e)
 
 -- ---- what the code was told of a node
 

@@ -9,7 +9,7 @@ ghost use Rattle.words.specs.LentMemory.{lent_memory};
 ghost use Rattle.chain.specs.Walking.{memory_with, ahead_in, ahead_from};
 ghost use Rattle.chain.specs.Keys.{buffer_left, read_keys, keys_of};
 
-use record::{Address, HEAD, Node, Refusal, TAIL, either};
+use record::{Address, HEAD, Node, Refusal, TAIL};
 use words::Sizes;
 
 // What the walk along the chain meets after a node: a node to go on to, with its address, or why it stops.
@@ -29,40 +29,24 @@ pub struct Chain<'a> {
     pub sizes: Sizes,
 }
 
-// Whether the walk at rank `from` goes on to a target at rank `to`, in use or not, or why it stops. The target's address is looked at only where
-// the walk goes on to it.
-#[tactic(auto, unfolding(table::specs::Words::address_at))]
-fn judge(addresses: &[u32], target: Node, used: bool, from: u64, to: u64) -> Ahead
-    ensures { (m : Memory) → result ≡
-        ahead_in (addresses≔ addresses.now m) (ahead_of target (eqb target.0 tail_node.0) used (ltb from to)) }
-{
-    if target == TAIL {
-        return Ahead::Tail;
-    }
-    if used {
-        if from < to {
-            let address = words::word_at(addresses, target);
-            return Ahead::Next(target, Address(address));
-        }
-        return Ahead::NotAbove;
-    }
-    Ahead::NotInUse
-}
-
 impl Chain<'_> {
     // The step of the walk: what it meets after a node. Where the target sorts is looked at only where the target is in use.
+    #[tactic(auto, unfolding(table::specs::Chain::ahead, table::specs::Words::address_at, table::specs::Words::link_at))]
     pub fn onward(&self, from: Node) -> Ahead
         ensures { (m : Memory) → result ≡ ahead_from (memory_with self.now m) from }
     {
         let target = words::target_of(words::word_at(self.links, from));
-        let used = words::in_use(self.links, self.sizes, target);
-        judge(
-            self.addresses,
-            target,
-            used,
-            words::rank_of(self.addresses, from),
-            words::rank_of(self.addresses, either(used, target, HEAD)),
-        )
+        if target == TAIL {
+            return Ahead::Tail;
+        }
+        if !words::in_use(self.links, self.sizes, target) {
+            return Ahead::NotInUse;
+        }
+        if words::rank_of(self.addresses, from) < words::rank_of(self.addresses, target) {
+            let address = words::word_at(self.addresses, target);
+            return Ahead::Next(target, Address(address));
+        }
+        Ahead::NotAbove
     }
 
     // As many of the chain's addresses as the buffer has room for: how many they are, and what the walk meets after the last of them.

@@ -117,7 +117,9 @@ fn run_files<R: Read, W: Write>(from: &mut R, to: &mut W) -> Result<(), Trouble>
     };
     let mut block = [0u8; 65536];
     // more files than an input can hold
-    for _ in 0..u64::MAX {
+    let mut left = u64::MAX;
+    while 0 < left {
+        left -= 1;
         let Some(length) = next_file(from, &mut space, &mut block)? else {
             return Ok(());
         };

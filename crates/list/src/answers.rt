@@ -20,25 +20,32 @@ pub(crate) fn refused(sizes: Sizes, old: Record, refusal: Refusal) -> Acted
     }
 }
 
-// The record advanced, and nothing handed out.
-pub(crate) fn accepted(sizes: Sizes, after: Record) -> Acted
-    ensures { result ≡ acted_as sizes after Accepted }
-{
-    Acted {
-        advanced: after,
-        sizes,
-        outcome: Outcome::Accepted,
-    }
-}
-
 impl Actor {
     // The record after an accepted step; or the one before, where the step is refused with 8.
     pub(crate) fn turned(self, after: Option<Record>) -> Acted
         ensures { result ≡ turned self.sizes self.before after }
     {
         match after {
-            Some(after) => accepted(self.sizes, after),
-            None => refused(self.sizes, self.before, Refusal::Broken),
+            Some(after) => self.accepted(after),
+            None => self.refused(Refusal::Broken),
+        }
+    }
+
+    // Nothing changed, and the refusal's number.
+    pub(crate) fn refused(self, refusal: Refusal) -> Acted
+        ensures { result ≡ acted_as self.sizes self.before (Refused (number_of refusal)) }
+    {
+        refused(self.sizes, self.before, refusal)
+    }
+
+    // The record advanced, and nothing handed out.
+    pub(crate) fn accepted(self, after: Record) -> Acted
+        ensures { result ≡ acted_as self.sizes after Accepted }
+    {
+        Acted {
+            advanced: after,
+            sizes: self.sizes,
+            outcome: Outcome::Accepted,
         }
     }
 }

@@ -10,9 +10,9 @@ ghost use Rattle.list.specs.Rows.{one_more};
 
 use crate::Acted;
 use crate::actor::Actor;
-use crate::answers::{accepted, refused};
 use record::{
-    Action, Address, DELETES, DOWN, FINDS, IDLE, INSERTS, NO_NODE, Node, RUNNING, Refusal, TAIL,
+    Action, Address, DELETES, DOWN, FINDS, IDLE, INSERTS, NO_NODE, Node, Outcome, RUNNING, Refusal,
+    TAIL,
 };
 use words::{Sizes, Tables};
 
@@ -45,9 +45,8 @@ impl Actor {
         ensures { result ≡ one_more self.sizes }
     {
         Sizes {
-            nodes: self.sizes.nodes,
-            processes: self.sizes.processes,
             count: self.sizes.count + 1,
+            ..self.sizes
         }
     }
 
@@ -59,14 +58,15 @@ impl Actor {
             does (memory_of tables.old self.sizes) self.process self.before (of.Insert address) }
     {
         if self.sizes.count == self.sizes.nodes {
-            return refused(self.sizes, self.before, Refusal::NoNodeLeft);
+            return self.refused(Refusal::NoNodeLeft);
         }
         let taken = Node(self.sizes.count);
         give_out(tables, taken, address);
-        accepted(
-            self.one_more(),
-            self.before.request(0, INSERTS, address, taken),
-        )
+        Acted {
+            advanced: self.before.request(0, INSERTS, address, taken),
+            sizes: self.one_more(),
+            outcome: Outcome::Accepted,
+        }
     }
 
     // The action of a process that is there and has the status it needs.
@@ -78,17 +78,15 @@ impl Actor {
     {
         match action {
             Action::Insert(address) => self.insert(tables, address),
-            Action::Delete(address) => accepted(
-                self.sizes,
+            Action::Delete(address) => self.accepted(
                 self.before.request(0, DELETES, address, NO_NODE),
             ),
-            Action::Find(address) => accepted(
-                self.sizes,
+            Action::Find(address) => self.accepted(
                 self.before.request(11, FINDS, address, NO_NODE),
             ),
             Action::Step => self.step(tables),
-            Action::Stop => accepted(self.sizes, self.before.goes_down()),
-            Action::Restart => accepted(self.sizes, self.before.restarts()),
+            Action::Stop => self.accepted(self.before.goes_down()),
+            Action::Restart => self.accepted(self.before.restarts()),
         }
     }
 }

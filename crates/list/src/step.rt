@@ -7,7 +7,6 @@ ghost use Rattle.list.specs.Acting.{left};
 
 use crate::Acted;
 use crate::actor::Actor;
-use crate::answers::refused;
 use record::Refusal;
 use words::Tables;
 
@@ -59,7 +58,7 @@ impl Actor {
                 18 => self.turned(Some(self.row_18())),
                 _ => self.row_19(),
             },
-            _ => refused(self.sizes, self.before, Refusal::Broken),
+            _ => self.refused(Refusal::Broken),
         }
     }
 
@@ -71,7 +70,7 @@ impl Actor {
             step (memory_of tables.old self.sizes) self.process self.before }
     {
         if !words::in_range(self.before) {
-            return refused(self.sizes, self.before, Refusal::Broken);
+            return self.refused(Refusal::Broken);
         }
         self.row(tables)
     }

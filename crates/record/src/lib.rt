@@ -1,5 +1,5 @@
 // The three sorts of number, the process record and its methods by value, actions, events, outcomes and refusals: what 01 stores and hands about.
-// Rests on the basics.
+// Rests on the kit alone.
 #![tactic(auto)]
 
 ghost use Rattle.std.specs.Prelude.{◌≡◌, cond};

@@ -5,6 +5,7 @@ mod lines;
 mod rest;
 
 ghost use Rattle.std.specs.Prelude.{◌≡◌, ◌≤◌, ◌-◌, length};
+ghost use Rattle.record.specs.Refusal.{number_of};
 ghost use Rattle.words.specs.LentMemory.{memory_of, SameTables};
 ghost use Rattle.run.specs.Filling.{stop};
 ghost use Rattle.run.specs.Pieces.{world, phase≔, fills, unstated, refusing, begins};
@@ -53,11 +54,11 @@ impl Run {
 }
 
 // A run that has only to say why its header was refused.
-fn refusing(number: u8) -> Run
-    ensures { result ≡ refusing number }
+fn refusing(refusal: Refusal) -> Run
+    ensures { result ≡ refusing (number_of refusal) }
 {
     Run {
-        phase: Phase::Refusing(number),
+        phase: Phase::Refusing(u8::from(refusal)),
         cursor: Cursor::start(),
         sizes: Sizes {
             nodes: 0,
@@ -93,7 +94,7 @@ pub fn begin(file: &[u8], tables: &mut Tables) -> Run
 {
     match begun(file, tables) {
         Ok(run) => run,
-        Err(refusal) => refusing(u8::from(refusal)),
+        Err(refusal) => refusing(refusal),
     }
 }
 

@@ -1,5 +1,6 @@
 // Lines: each event read, acted on and told; then what follows the last event.
 ghost use Rattle.std.specs.Prelude.{◌≡◌, ◌≤◌, ◌-◌, length};
+ghost use Rattle.record.specs.Refusal.{number_of};
 ghost use Rattle.words.specs.LentMemory.{memory_of, SameTables};
 ghost use Rattle.schedule.specs.EventRead.{event_told};
 ghost use Rattle.text.specs.Put.{put, puts};
@@ -23,12 +24,12 @@ fn number_after(number: u32) -> u32
 }
 
 // The line of a refusal that stops the run, and the first word of the last line.
-fn put_stopped(part: &mut [u8], number: u32, refusal: u8) -> usize
+fn put_stopped(part: &mut [u8], number: u32, refusal: Refusal) -> usize
     requires { 64 ≤ length part.old }
-    ensures result_after { put part.new result ≡ puts (stopped_text number refusal) part.old }
+    ensures result_after { put part.new result ≡ puts (stopped_text number (number_of refusal)) part.old }
     ensures upper_bound { result ≤ 34 }
 {
-    let k = put_refusal(part, number, refusal);
+    let k = put_refusal(part, number, u8::from(refusal));
     let m = put_keys(&mut part[k..]);
     k + m
 }
@@ -43,7 +44,7 @@ fn put_last(part: &mut [u8], number: u32, read: Result<Option<(Event, Cursor)>, 
     match read {
         Ok(Some(_)) => 0,
         Ok(None) => put_keys(part),
-        Err(refusal) => put_stopped(part, number, u8::from(refusal)),
+        Err(refusal) => put_stopped(part, number, refusal),
     }
 }
 

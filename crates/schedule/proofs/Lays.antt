@@ -14,13 +14,12 @@ use Rattle.record.specs.declared.Event.{Event}
 use Rattle.record.specs.declared.Refusal.{Refusal}
 use Rattle.basics.proofs.Rest.{rest_is, rest_back}
 use Rattle.table.specs.Events.{sizes_fit}
-use Rattle.basics.proofs.Tests.{if_le}
 use Rattle.numbers.specs.Numbers.{number_bytes}
 use Rattle.schedule.specs.declared.Header.{Header}
 use Rattle.schedule.specs.declared.writing.Numbers.{Numbers}
 use Rattle.schedule.specs.Encoding.{header_bytes, event_bytes}
 use Rattle.schedule.specs.Writing.{Wrote, room, laid, wrote, answered, put_at, written_header, written_event}
-use Rattle.schedule.specs.Inside.Laying.{tail_bytes, bytes_of, fitted, all_or_none, put_in_rest}
+use Rattle.schedule.specs.Inside.Laying.{tail_bytes, bytes_of, fitted, put_in_rest}
 use Rattle.schedule.proofs.BytesNeeded.{tail_of_two, tail_of_three}
 
 -- ---- bytes laid as far as there is room
@@ -71,34 +70,23 @@ module _ (x : Numbers) (out mid : List ℕ) (e : mid ≡ fitted (number_bytes x.
 -- ---- all the bytes in the rest of the output, or none
 
 -- what the event writer has counted, and the numbers put in as many bytes
-module _ (bytes rest new : List ℕ) (at needed left count : ℕ)
-    (is-needed : needed ≡ length bytes) (is-left : left ≡ min (length rest) (65536 - at))
-    (is-count : count ≡ all_or_none needed left) (is-new : new ≡ fitted bytes (take count rest)) where
-  pub none_put : count < needed → wrote (new ++ drop count rest) at 9 ≡ put_in_rest bytes rest at
-  unfolding all_or_none put_in_rest
-  none_put h =
-      if_le (λ (k : ℕ). count ≡ k → wrote (new ++ drop count rest) at 9 ≡ put_in_rest bytes rest at) needed left
-      (λ fits all. absurd (omega arith))
-      (λ lacks none. rw (lt-leb (length bytes) (min (length rest) (65536 - at)) (omega arith), is-new, none, fitted_full bytes [] (omega arith)))
-      is-count
+module _ (bytes rest : List ℕ) (at needed left : ℕ) (is-needed : needed ≡ length bytes) (is-left : left ≡ min (length rest) (65536 - at)) where
+  pub none_put : left < needed → wrote rest at 9 ≡ put_in_rest bytes rest at
+  unfolding put_in_rest
+  none_put h = rw (lt-leb (length bytes) (min (length rest) (65536 - at)) (omega arith))
 
-  pub all_put : 1 ≤ length bytes → needed ≤ count → wrote (new ++ drop count rest) (at + needed) 0 ≡ put_in_rest bytes rest at
-  unfolding all_or_none put_in_rest
-  all_put some h =
-      if_le (λ (k : ℕ). count ≡ k → wrote (new ++ drop count rest) (at + needed) 0 ≡ put_in_rest bytes rest at) needed left
-      (λ fits all.
+  pub all_put : (new : List ℕ) → needed ≤ left → new ≡ fitted bytes (take needed rest) → wrote (new ++ drop needed rest) (at + needed) 0 ≡ put_in_rest bytes rest at
+  unfolding put_in_rest
+  all_put new fits is-new =
       let lent : length (take (length bytes) rest) ≡ length bytes = length-take-le (length bytes) rest (omega arith) in
       rw (
         le-leb (length bytes) (min (length rest) (65536 - at)) (omega arith),
         is-new,
-        all,
         is-needed,
         fitted_full bytes (take (length bytes) rest) (omega arith),
         lent,
         take-length,
-      ))
-      (λ lacks none. absurd (omega arith))
-      is-count
+      )
 
 -- ---- in the output
 

@@ -4,7 +4,7 @@ ghost use Rattle.record.specs.Event.{address_of};
 ghost use Rattle.numbers.specs.Numbers.{number_bytes};
 ghost use Rattle.schedule.specs.Encoding.{address_bytes, event_bytes};
 ghost use Rattle.schedule.specs.Writing.{put_at, answered, written_header, written_event};
-ghost use Rattle.schedule.specs.Inside.Laying.{third_bytes, tail_bytes, bytes_of, fitted, all_or_none, put_in_rest};
+ghost use Rattle.schedule.specs.Inside.Laying.{third_bytes, tail_bytes, bytes_of, fitted, put_in_rest};
 
 use crate::Header;
 use crate::kind::Kind;
@@ -55,18 +55,6 @@ fn room(rest: usize, at: usize) -> usize
     rest.min(limit)
 }
 
-// How many bytes go out: all that are needed, or none.
-#[tactic(auto, unfolding(crate::specs::Inside::Laying::all_or_none))]
-fn all_or_none(needed: usize, left: usize) -> usize
-    ensures value { result ≡ all_or_none needed left }
-    ensures upper_bound { result ≤ left }
-{
-    if left < needed {
-        return 0;
-    }
-    needed
-}
-
 // The number writer: puts a number at the start of what it is lent, as far as that goes, and answers how many bytes.
 #[tactic(auto, using(crate::proofs::PutNumber::putting))]
 fn put_number(out: &mut [u8], number: u32) -> usize
@@ -106,17 +94,16 @@ fn put_numbers(out: &mut [u8], numbers: Numbers)
 }
 
 // The event writer: puts the numbers at the start of the rest of the output, all or none of their bytes.
-#[tactic(auto, using(crate::proofs::Lays::none_put, crate::proofs::Lays::all_put, crate::proofs::BytesNeeded::all_some))]
+#[tactic(auto, using(crate::proofs::Lays::none_put, crate::proofs::Lays::all_put))]
 fn put_event(rest: &mut [u8], at: usize, numbers: Numbers) -> Result<usize, Refusal>
     ensures { answered rest.new at result ≡ put_in_rest (bytes_of numbers) rest.old at }
 {
     let needed = size(numbers);
     let left = room(rest.len(), at);
-    let count = all_or_none(needed, left);
-    put_numbers(&mut rest[..count], numbers);
-    if count < needed {
+    if left < needed {
         return Err(Refusal::NoRoom);
     }
+    put_numbers(&mut rest[..needed], numbers);
     Ok(at + needed)
 }
 

@@ -20,10 +20,6 @@ fitted [] part = part
 fitted (b ∷ bytes) [] = []
 fitted (b ∷ bytes) (old ∷ part) = b ∷ fitted bytes part
 
--- how many bytes go out of so many that are needed, by the room left
-unfoldable pub all_or_none : (needed left : ℕ) → ℕ
-all_or_none needed left = cond (leb needed left) needed 0
-
 -- `put`, in the rest of the output from a place on
 unfoldable pub put_in_rest : (bytes rest : List ℕ) → (at : ℕ) → Wrote
 put_in_rest bytes rest at =

@@ -1,8 +1,17 @@
--- What `judge` says of the words that were read is what lies ahead. Rests on Walks.
-use Rattle.chain.proofs.Walks.{onward_told}
+-- What the words that were read tell of what lies ahead.
+use Rattle.std.proofs.Common.{rules}
+use Rattle.table.specs.Words.{addresses≔, link_at, address_at}
+use Rattle.table.specs.Chain.{ahead}
 use Rattle.chain.proofs.Chain.onward.Goals as goal
 
+pub returns-then-not-in_use : goal.returns-then-not-in_use
+unfolding ahead link_at address_at
+returns-then-not-in_use c = λ m. search (rules, c.in_use.ensures (addresses≔ c.args.self.now.addresses.now m))
+
+pub returns-then-rank_of : goal.returns-then-rank_of
+unfolding ahead link_at address_at
+returns-then-rank_of c = λ m. search (rules, c.in_use.ensures (addresses≔ c.args.self.now.addresses.now m))
+
 pub returns : goal.returns
-returns c =
-    onward_told _ _ _ _ _ _ _ _ _ _ _
-    c.judge.ensures c.target_of-target.ensures c.word_at.ensures c.in_use-used.ensures c.rank_of.ensures c.rank_of-2.ensures c.either.ensures
+unfolding ahead link_at address_at
+returns c = λ m. search (rules, c.in_use.ensures (addresses≔ c.args.self.now.addresses.now m))

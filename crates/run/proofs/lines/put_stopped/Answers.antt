@@ -4,4 +4,4 @@ use Rattle.run.proofs.LastTexts.{stopped_put}
 use Rattle.run.proofs.lines.put_stopped.Goals as goal
 
 pub returns-clause-result_after : goal.returns-clause-result_after
-returns-clause-result_after c = search (rules, stopped_put)
+returns-clause-result_after c = rw (← c.from.ensures) (search (rules, stopped_put))
