@@ -5,7 +5,7 @@ ghost use Rattle.std.specs.Prelude.{◌≡◌, ℕ, ◌≤◌, length};
 ghost use Rattle.basics.specs.Over.{over};
 ghost use Rattle.table.specs.Words.{fresh_memory};
 ghost use Rattle.table.specs.Events.{state_of};
-ghost use Rattle.words.specs.LentMemory.{memory_of, SameTables};
+ghost use Rattle.words.specs.LentMemory.{memory_in, SameTables};
 ghost use Rattle.fresh.specs.Fresh.{fresh_sizes, fresh_tables, tables_left, fresh_list, list_left};
 
 use record::{Record, Refusal, TAIL};
@@ -26,8 +26,8 @@ fn fresh_links(links: &mut [u32], nodes: usize)
 #[tactic(auto, using(crate::proofs::Freshness::tables_told))]
 pub fn fresh_tables(tables: &mut Tables, nodes: u32, processes: u32) -> Result<Sizes, Refusal>
     ensures same { SameTables tables.old tables.new }
-    ensures left { tables_left (memory_of tables.new (fresh_sizes nodes processes)) result ≡
-        fresh_tables (memory_of tables.old (fresh_sizes nodes processes)) }
+    ensures left { tables_left (memory_in tables.new (fresh_sizes nodes processes)) result ≡
+        fresh_tables (memory_in tables.old (fresh_sizes nodes processes)) }
 {
     let sizes = Sizes {
         nodes,
@@ -56,9 +56,9 @@ pub fn fresh_list(
     processes: u32,
 ) -> Result<Sizes, Refusal>
     ensures same { SameTables tables.old tables.new }
-    ensures left { list_left (state_of (memory_of tables.new (fresh_sizes nodes processes))
+    ensures left { list_left (state_of (memory_in tables.new (fresh_sizes nodes processes))
         row.new) result ≡
-        fresh_list (state_of (memory_of tables.old (fresh_sizes nodes processes))
+        fresh_list (state_of (memory_in tables.old (fresh_sizes nodes processes))
         row.old) }
 {
     let stated = processes as usize;

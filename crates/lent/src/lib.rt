@@ -3,7 +3,7 @@
 
 ghost use Rattle.std.specs.Prelude.{◌≡◌};
 ghost use Rattle.table.specs.Events.{act, state_of, leaves_in, event as event_in};
-ghost use Rattle.words.specs.LentMemory.{memory_of, SameTables};
+ghost use Rattle.words.specs.LentMemory.{memory_in, SameTables};
 ghost use Rattle.list.specs.Acting.{left};
 ghost use Rattle.lent.specs.Lent.{acted_of};
 
@@ -40,8 +40,8 @@ pub fn act_on(
     action: Action,
 ) -> Said
     ensures same { SameTables tables.old tables.new }
-    ensures left { left (memory_of tables.new result.sizes) (acted_of «record».new result) ≡
-        act (memory_of tables.old sizes) process «record».old action }
+    ensures left { left (memory_in tables.new result.sizes) (acted_of «record».new result) ≡
+        act (memory_in tables.old sizes) process «record».old action }
 {
     let acted = list::act(tables, sizes, process, *record, action);
     if !matches!(acted.outcome, Outcome::Refused(_)) {
@@ -54,8 +54,8 @@ pub fn act_on(
 // read or stored for it.
 pub fn act_in(tables: &mut Tables, sizes: Sizes, row: &mut [Record], event: Event) -> Said
     ensures same { SameTables tables.old tables.new }
-    ensures left { leaves_in (state_of (memory_of tables.new result.sizes) row.new) result.outcome ≡
-        event_in (state_of (memory_of tables.old sizes) row.old) event }
+    ensures left { leaves_in (state_of (memory_in tables.new result.sizes) row.new) result.outcome ≡
+        event_in (state_of (memory_in tables.old sizes) row.old) event }
 {
     let process = event.process;
     if row.len() < sizes.processes as usize {

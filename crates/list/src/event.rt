@@ -4,7 +4,7 @@ ghost use Rattle.record.specs.Record.{tail_node};
 ghost use Rattle.record.specs.declared.Action.TheVariants as of;
 ghost use Rattle.table.specs.Words.{link_word, no_deleter};
 ghost use Rattle.table.specs.Events.{does, status_needed};
-ghost use Rattle.words.specs.LentMemory.{memory_of, SameTables};
+ghost use Rattle.words.specs.LentMemory.{memory_in, SameTables};
 ghost use Rattle.list.specs.Acting.{left};
 ghost use Rattle.list.specs.Rows.{one_more};
 
@@ -54,8 +54,8 @@ impl Actor {
     #[tactic(auto, unfolding(table::specs::Events::does, table::specs::Words::given_out))]
     fn insert(self, tables: &mut Tables, address: Address) -> Acted
         ensures same { SameTables tables.old tables.new }
-        ensures left { left (memory_of tables.new result.sizes) result ≡
-            does (memory_of tables.old self.sizes) self.process self.before (of.Insert address) }
+        ensures left { left (memory_in tables.new result.sizes) result ≡
+            does (memory_in tables.old self.sizes) self.process self.before (of.Insert address) }
     {
         if self.sizes.count == self.sizes.nodes {
             return self.refused(Refusal::NoNodeLeft);
@@ -73,8 +73,8 @@ impl Actor {
     #[tactic(auto, unfolding(table::specs::Events::does))]
     pub(crate) fn does(self, tables: &mut Tables, action: Action) -> Acted
         ensures same { SameTables tables.old tables.new }
-        ensures left { left (memory_of tables.new result.sizes) result ≡
-            does (memory_of tables.old self.sizes) self.process self.before action }
+        ensures left { left (memory_in tables.new result.sizes) result ≡
+            does (memory_in tables.old self.sizes) self.process self.before action }
     {
         match action {
             Action::Insert(address) => self.insert(tables, address),

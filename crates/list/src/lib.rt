@@ -3,7 +3,7 @@
 
 ghost use Rattle.std.specs.Prelude.{◌≡◌};
 ghost use Rattle.table.specs.Events.{act};
-ghost use Rattle.words.specs.LentMemory.{memory_of, SameTables};
+ghost use Rattle.words.specs.LentMemory.{memory_in, SameTables};
 ghost use Rattle.list.specs.Acting.{left};
 
 mod access;
@@ -41,8 +41,8 @@ pub fn act(
     action: Action,
 ) -> Acted
     ensures same { SameTables tables.old tables.new }
-    ensures left { left (memory_of tables.new result.sizes) result ≡
-        act (memory_of tables.old sizes) process «record» action }
+    ensures left { left (memory_in tables.new result.sizes) result ≡
+        act (memory_in tables.old sizes) process «record» action }
 {
     let addresses = &mut *tables.addresses;
     let links = &mut *tables.links;

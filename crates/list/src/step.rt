@@ -2,7 +2,7 @@
 ghost use Rattle.std.specs.Prelude.{◌≡◌, true};
 ghost use Rattle.table.specs.Steps.{in_range};
 ghost use Rattle.table.specs.Events.{step};
-ghost use Rattle.words.specs.LentMemory.{memory_of, SameTables};
+ghost use Rattle.words.specs.LentMemory.{memory_in, SameTables};
 ghost use Rattle.list.specs.Acting.{left};
 
 use crate::Acted;
@@ -16,8 +16,8 @@ impl Actor {
     fn row(self, tables: &mut Tables) -> Acted
         requires { in_range self.before ≡ true }
         ensures same { SameTables tables.old tables.new }
-        ensures left { left (memory_of tables.new self.sizes) result ≡
-            step (memory_of tables.old self.sizes) self.process self.before }
+        ensures left { left (memory_in tables.new self.sizes) result ≡
+            step (memory_in tables.old self.sizes) self.process self.before }
     {
         let addresses = &mut *tables.addresses;
         let links = &mut *tables.links;
@@ -66,8 +66,8 @@ impl Actor {
     #[tactic(auto, using(crate::proofs::Turns::unranged))]
     pub(crate) fn step(self, tables: &mut Tables) -> Acted
         ensures same { SameTables tables.old tables.new }
-        ensures left { left (memory_of tables.new self.sizes) result ≡
-            step (memory_of tables.old self.sizes) self.process self.before }
+        ensures left { left (memory_in tables.new self.sizes) result ≡
+            step (memory_in tables.old self.sizes) self.process self.before }
     {
         if !words::in_range(self.before) {
             return self.refused(Refusal::Broken);

@@ -2,7 +2,7 @@
 #![tactic(auto)]
 
 ghost use Rattle.std.specs.Prelude.{◌≤◌, is_ok, length};
-ghost use Rattle.words.specs.LentMemory.{memory_of, SameTables};
+ghost use Rattle.words.specs.LentMemory.{memory_in, SameTables};
 ghost use Rattle.run.specs.Pieces.{unstated, begins};
 ghost use Rattle.blocks.specs.ToCome.{to_come};
 ghost use Rattle.streams.specs.Written.{Written};
@@ -40,11 +40,11 @@ fn print_blocks<W: Write>(
 ) -> Result<(), WriteFailed>
     ensures same { SameTables tables.old tables.new }
     ensures printed { Printed file.now
-        (begins file.now (memory_of tables.old unstated))
-        (length block.old) (memory_of tables.new unstated)
+        (begins file.now (memory_in tables.old unstated))
+        (length block.old) (memory_in tables.new unstated)
         block.new (is_ok result) }
     ensures written { 64 ≤ length block.old → Written (W.contents to.old) (W.contents to.new)
-        (to_come file.now (begins file.now (memory_of tables.old unstated)))
+        (to_come file.now (begins file.now (memory_in tables.old unstated)))
         (is_ok result) }
 {
     let mut run = begin(file, tables);
@@ -67,10 +67,10 @@ pub fn print_output<W: Write>(
 ) -> Result<(), PrintError>
     ensures same { SameTables tables.old tables.new }
     ensures printed { PrintedAs file.now
-        (memory_of tables.old unstated) block.old
-        (memory_of tables.new unstated) block.new result }
+        (memory_in tables.old unstated) block.old
+        (memory_in tables.new unstated) block.new result }
     ensures written { WrittenAs (W.contents to.old) (W.contents to.new)
-        (to_come file.now (begins file.now (memory_of tables.old unstated)))
+        (to_come file.now (begins file.now (memory_in tables.old unstated)))
         result }
 {
     if block.len() < 64 {

@@ -1,4 +1,5 @@
-// 01's run program: from the bytes of a schedule file to lines of text, block after block. Rests on the reader, the list and the text.
+// 01's run program: from the bytes of a schedule file to lines of text, block after block. Rests on the reader, the event in a lent row, the walk
+// along the chain and the text.
 #![tactic(auto)]
 
 mod lines;
@@ -6,7 +7,7 @@ mod rest;
 
 ghost use Rattle.std.specs.Prelude.{◌≡◌, ◌≤◌, ◌-◌, length};
 ghost use Rattle.record.specs.Refusal.{number_of};
-ghost use Rattle.words.specs.LentMemory.{memory_of, SameTables};
+ghost use Rattle.words.specs.LentMemory.{memory_in, SameTables};
 ghost use Rattle.run.specs.Filling.{stop};
 ghost use Rattle.run.specs.Pieces.{world, phase≔, fills, unstated, refusing, begins};
 ghost use Rattle.run.specs.PrivatePromises.{LeftOff, Ready, begun};
@@ -73,8 +74,8 @@ fn refusing(refusal: Refusal) -> Run
 // A run after its header, and the lent tables made fresh, where it is accepted.
 fn begun(file: &[u8], tables: &mut Tables) -> Result<Run, Refusal>
     ensures same { SameTables tables.old tables.new }
-    ensures left { world (memory_of tables.new (begun result).sizes) (begun result) ≡
-        begins file.now (memory_of tables.old unstated) }
+    ensures left { world (memory_in tables.new (begun result).sizes) (begun result) ≡
+        begins file.now (memory_in tables.old unstated) }
 {
     let (header, cursor) = read_header(file, Cursor::start())?;
     let sizes = fresh_tables(tables, header.nodes, header.processes)?;
@@ -90,7 +91,7 @@ fn begun(file: &[u8], tables: &mut Tables) -> Result<Run, Refusal>
 // A run at the start of a file: its header read, and the lent tables made fresh where it is accepted.
 pub fn begin(file: &[u8], tables: &mut Tables) -> Run
     ensures same { SameTables tables.old tables.new }
-    ensures left { world (memory_of tables.new result.sizes) result ≡ begins file.now (memory_of tables.old unstated) }
+    ensures left { world (memory_in tables.new result.sizes) result ≡ begins file.now (memory_in tables.old unstated) }
 {
     match begun(file, tables) {
         Ok(run) => run,
@@ -101,8 +102,8 @@ pub fn begin(file: &[u8], tables: &mut Tables) -> Run
 // The lines of events, where the run has come to them.
 fn fill_first(file: &[u8], tables: &mut Tables, block: &mut [u8], run: Run) -> Filled
     ensures same { SameTables tables.old tables.new }
-    ensures left_off { LeftOff file.now (world (memory_of tables.old run.sizes) run) block.old
-        (world (memory_of tables.new result.run.sizes) result.run) block.new result.count }
+    ensures left_off { LeftOff file.now (world (memory_in tables.old run.sizes) run) block.old
+        (world (memory_in tables.new result.run.sizes) result.run) block.new result.count }
     ensures count_in_bounds { result.count ≤ length block.new }
     ensures ready { Ready result.run.phase (length block.new - result.count) }
 {
@@ -116,8 +117,8 @@ fn fill_first(file: &[u8], tables: &mut Tables, block: &mut [u8], run: Run) -> F
 // short: nothing is put into it, and the run stays.
 pub fn fill(file: &[u8], tables: &mut Tables, block: &mut [u8], run: Run) -> Filled
     ensures same { SameTables tables.old tables.new }
-    ensures count_after { stop (world (memory_of tables.new result.run.sizes) result.run) block.new result.count ≡
-        fills file.now (world (memory_of tables.old run.sizes) run) block.old }
+    ensures count_after { stop (world (memory_in tables.new result.run.sizes) result.run) block.new result.count ≡
+        fills file.now (world (memory_in tables.old run.sizes) run) block.old }
     ensures count_in_bounds { result.count ≤ length block.new }
 {
     let first = fill_first(file, tables, block, run);

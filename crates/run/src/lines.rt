@@ -1,7 +1,7 @@
 // Lines: each event read, acted on and told; then what follows the last event.
 ghost use Rattle.std.specs.Prelude.{◌≡◌, ◌≤◌, ◌-◌, length};
 ghost use Rattle.record.specs.Refusal.{number_of};
-ghost use Rattle.words.specs.LentMemory.{memory_of, SameTables};
+ghost use Rattle.words.specs.LentMemory.{memory_in, SameTables};
 ghost use Rattle.schedule.specs.EventRead.{event_told};
 ghost use Rattle.text.specs.Put.{put, puts};
 ghost use Rattle.run.specs.declared.Phase.TheVariants.{Acting};
@@ -52,8 +52,8 @@ fn put_last(part: &mut [u8], number: u32, read: Result<Option<(Event, Cursor)>, 
 pub(crate) fn fill_lines(file: &[u8], tables: &mut Tables, block: &mut [u8], mut run: Run) -> Filled
     requires { run.phase ≡ Acting }
     ensures same { SameTables tables.old tables.new }
-    ensures left_off { LeftOff file.now (world (memory_of tables.old run.sizes) run) block.old
-        (world (memory_of tables.new result.run.sizes) result.run) block.new result.count }
+    ensures left_off { LeftOff file.now (world (memory_in tables.old run.sizes) run) block.old
+        (world (memory_in tables.new result.run.sizes) result.run) block.new result.count }
     ensures count_in_bounds { result.count ≤ length block.new }
     ensures ready { Ready result.run.phase (length block.new - result.count) }
 {

@@ -9,8 +9,8 @@ use Rattle.words.specs.declared.Tables.{Tables}
 abbrev pub lent_memory : (addresses links deleters : List ℕ) → Sizes → Memory
 lent_memory addresses links deleters sizes = memory addresses links deleters sizes.count sizes.nodes sizes.processes
 
-abbrev pub memory_of : Tables → Sizes → Memory
-memory_of t sizes = lent_memory t.addresses.now t.links.now t.deleters.now sizes
+abbrev pub memory_in : Tables → Sizes → Memory
+memory_in t sizes = lent_memory t.addresses.now t.links.now t.deleters.now sizes
 
 -- the tables that were lent, as long as they were, whatever words they have now
 pub record SameTables (old new : Tables) : Type 0 where

@@ -7,7 +7,7 @@ use Rattle.record.specs.declared.Outcome.TheVariants.{Refused}
 use Rattle.table.specs.Words.{Memory}
 use Rattle.table.specs.Events.{Left, act}
 use Rattle.table.proofs.Laws.Events.{refused_act_changes_nothing}
-use Rattle.words.specs.LentMemory.{memory_of}
+use Rattle.words.specs.LentMemory.{memory_in}
 use Rattle.list.specs.Acting.{left}
 use Rattle.list.specs.declared.Acted.{Acted}
 use Rattle.lent.proofs.act_on.Goals as goal
@@ -25,7 +25,7 @@ returns-clause-left c =
     elim c.if-not-matches.branch [
       | then-not-matches w ↦ w.record-is
       | else-not-matches w ↦ w.record-is ∙ elim c.match-matches.branch [
-        | in-Refused v ↦ refused_keeps _ _ _ _ (memory_of x.new.tables x.result.sizes) x.result _ x.ensures.left v.in-Refused.is
+        | in-Refused v ↦ refused_keeps _ _ _ _ (memory_in x.new.tables x.result.sizes) x.result _ x.ensures.left v.in-Refused.is
         | in_default v ↦ absurd (search rules)
       ]
     ] in

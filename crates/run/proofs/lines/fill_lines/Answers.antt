@@ -1,7 +1,7 @@
 -- A line put goes on, and what follows the last event ends the lines. Rests on Fills and Steps.
 use Rattle.std.proofs.Common.{◌≡◌, ◌∙◌, ap, refl, sym, arith, rules}
 use Rattle.std.specs.Prelude.{Ok, Some}
-use Rattle.words.specs.LentMemory.{memory_of}
+use Rattle.words.specs.LentMemory.{memory_in}
 use Rattle.words.proofs.LentTables.{same_still, same_later}
 use Rattle.schedule.specs.EventRead.{event_told}
 use Rattle.text.specs.Text.{line}
@@ -31,7 +31,7 @@ returns-in_default c =
       | in_default-via-in_default w ↦ search rules
     ] in
     let m = c.put_last-m in
-    let w = world (memory_of l.tables l.run.sizes) l.run in
+    let w = world (memory_in l.tables l.run.sizes) l.run in
     let g = grows (last_text l.run.number (event_told x.result)) l.block m.new.part l.at m.result l.invariant.within
     (last_some l.run.number x.result last) m.auto.part m.ensures.result_after in
     let step = last_piece c.args.file.now w x.result l.invariant.acting x.ensures last in
@@ -53,9 +53,9 @@ loop-block-preserved c =
     let x = c.act_in-said in
     let o = x.result.outcome in
     let p = c.put_line-at in
-    let m = memory_of l.tables l.run.sizes in
+    let m = memory_in l.tables l.run.sizes in
     let read : c.read_event-read.result ≡ Ok (Some (c.in-Ok-Some.event, c.in-Ok-Some.next)) = search rules in
-    let step = acted_piece file m l.run c.in-Ok-Some.event c.in-Ok-Some.next (memory_of x.new.tables x.result.sizes) x.result.sizes x.new.row o
+    let step = acted_piece file m l.run c.in-Ok-Some.event c.in-Ok-Some.next (memory_in x.new.tables x.result.sizes) x.result.sizes x.new.row o
     c.number_after.result l.invariant.acting (sym c.read_event-read.ensures ∙ ap event_told read) x.ensures.left c.number_after.ensures in
     let g = grows_into (line l.run.number o) l.block p.new.part l.at p.result l.invariant.within (line_some l.run.number o) p.auto.part
     c.if-block-at-lt64.false p.ensures.result_after in

@@ -1,6 +1,6 @@
 -- The lines put so far, and filling on from here, come to filling from the start. Rests on Fills.
 use Rattle.std.proofs.Common.{ℕ, ◌≡◌, ◌≤◌, ◌-◌, length}
-use Rattle.words.specs.LentMemory.{memory_of, SameTables}
+use Rattle.words.specs.LentMemory.{memory_in, SameTables}
 use Rattle.run.specs.declared.Phase.{Phase}
 use Rattle.run.specs.declared.Phase.TheVariants.{Acting}
 use Rattle.run.specs.Pieces.{world, next_piece, fills}
@@ -18,8 +18,8 @@ pub record LoopKeeps (T : Type 0) (block block₀ at : ℕ) (phase : Phase) (R :
 abbrev pub invariant-loop-block : goal.invariant-loop-block
 invariant-loop-block l =
     LoopKeeps (SameTables l.fn.tables l.tables) (length l.block) (length l.fn.block) l.at l.run.phase
-    (FillsTo (next_piece l.file) (world (memory_of l.tables l.run.sizes) l.run) l.block l.at
-    (fills l.file (world (memory_of l.fn.tables l.fn.run.sizes) l.fn.run) l.fn.block))
+    (FillsTo (next_piece l.file) (world (memory_in l.tables l.run.sizes) l.run) l.block l.at
+    (fills l.file (world (memory_in l.fn.tables l.fn.run.sizes) l.fn.run) l.fn.block))
 
 abbrev pub decreases-loop-block : goal.decreases-loop-block
 decreases-loop-block l = length l.block - l.at
