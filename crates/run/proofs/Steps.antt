@@ -80,7 +80,7 @@ Answer = Result (Option (Event × Cursor)) Refusal
 abbrev pub NotGot : Answer → Type 0
 NotGot r = (x : Event × Cursor) → r ≡ Ok (Some x) → ⊥
 
-last_next : (file : List ℕ) (w : World) (r : Answer) → event_at file w.run.cursor ≡ event_told r → NotGot r
+pub last_next : (file : List ℕ) (w : World) (r : Answer) → event_at file w.run.cursor ≡ event_told r → NotGot r
     → event_next file w ≡ piece (last_text w.run.number (event_told r)) (to_walk w)
 unfolding last_text
 last_next file w (Ok (Some x)) is h = absurd (h x refl)

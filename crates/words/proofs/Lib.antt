@@ -1,3 +1,4 @@
 pub mod Links
 pub mod Unique
 pub mod LentTables
+pub mod Slots
